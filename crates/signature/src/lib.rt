@@ -1,0 +1,4 @@
+// Signatures: names, arities and weights, read from lines of text.
+pub mod name;
+pub mod signature;
+pub mod symbol;

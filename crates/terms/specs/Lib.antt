@@ -1,0 +1,4 @@
+pub mod Term
+pub mod Sig
+pub mod Preorder
+pub mod Patterns
