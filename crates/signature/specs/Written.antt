@@ -9,8 +9,12 @@ use Rattle.terms.specs.Term.{Term, Terms, var, app, nil, _▹_}
 abbrev mutual
   pub written : List (List ℕ) → Term → List ℕ
   written ns (var x) = 88 ∷ decimal x
-  written ns (app f nil) = getD ns f []
-  written ns (app f (t ▹ ts)) = getD ns f [] ++ (40 ∷ (written ns t ++ written-more ns ts))
+  written ns (app f ts) = getD ns f [] ++ written-args ns ts
+
+  -- no argument, no parentheses
+  pub written-args : List (List ℕ) → Terms → List ℕ
+  written-args ns nil = []
+  written-args ns (t ▹ ts) = 40 ∷ (written ns t ++ written-more ns ts)
 
   pub written-more : List (List ℕ) → Terms → List ℕ
   written-more ns nil = 41 ∷ []
