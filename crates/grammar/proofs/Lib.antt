@@ -1,0 +1,5 @@
+pub mod Same
+pub mod Steps
+pub mod Terms
+pub mod Formulas
+pub mod Prefixes

@@ -1,0 +1,4 @@
+pub mod Kinds
+pub mod Syntax
+pub mod Machine
+pub mod Fits
