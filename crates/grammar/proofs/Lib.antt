@@ -3,3 +3,5 @@ pub mod Steps
 pub mod Terms
 pub mod Formulas
 pub mod Prefixes
+pub mod Walks
+pub mod Handing

@@ -5,9 +5,12 @@ ghost use lib.ListN.{length};
 ghost use Rattle.std.specs.Orderings.{Decides};
 ghost use Rattle.lexer.specs.Next.{lexeme-of};
 ghost use Rattle.grammar.specs.Kinds.{same-kind, same-bytes};
+ghost use Rattle.grammar.specs.Outcomes.{Walked};
 ghost use Rattle.grammar.specs.Machine.{expect as expected, spot, term-start, inside as inside-of, outside as outside-of, behind as behind-of, next as next-of, is-done, depth-of};
 use super::Spot;
 use super::State;
+use crate::part::Fault;
+use lexer::scanner::next_token;
 use lexer::token::Kind;
 use lexer::token::Token;
 
@@ -35,7 +38,11 @@ impl Spot {
     fn left(wrapped: bool) -> Spot
         ensures { λ r. ⌜ r ≡ spot 0 Bool.false wrapped ⌝ }
     {
-        Spot { depth: 0, right: false, wrapped }
+        Spot {
+            depth: 0,
+            right: false,
+            wrapped,
+        }
     }
 
     fn start(self, kind: Kind) -> Option<State>
@@ -56,7 +63,11 @@ impl Spot {
             Kind::Comma => Some(State::Term(self)),
             Kind::Close => {
                 let depth = self.depth - 1;
-                Some(State::Closed(Spot { depth, right: self.right, wrapped: self.wrapped }))
+                Some(State::Closed(Spot {
+                    depth,
+                    right: self.right,
+                    wrapped: self.wrapped,
+                }))
             }
             _ => None,
         }
@@ -67,8 +78,16 @@ impl Spot {
     {
         let wrapped = self.wrapped;
         match kind {
-            Kind::Close if self.right => Some(if wrapped { State::Unwrapped } else { State::Ended }),
-            Kind::Equal | Kind::Unequal if !self.right => Some(State::Term(Spot { depth: 0, right: true, wrapped })),
+            Kind::Close if self.right => Some(if wrapped {
+                State::Unwrapped
+            } else {
+                State::Ended
+            }),
+            Kind::Equal | Kind::Unequal if !self.right => Some(State::Term(Spot {
+                depth: 0,
+                right: true,
+                wrapped,
+            })),
             _ => None,
         }
     }
@@ -76,7 +95,11 @@ impl Spot {
     fn behind(self, kind: Kind) -> Option<State>
         ensures { λ r. ⌜ r ≡ behind-of self kind ⌝ }
     {
-        if self.depth > 0 { self.inside(kind) } else { self.outside(kind) }
+        if self.depth > 0 {
+            self.inside(kind)
+        } else {
+            self.outside(kind)
+        }
     }
 }
 
@@ -88,13 +111,16 @@ impl State {
     }
 
     // The state behind one more token, or None where the token cannot follow.
-    pub fn next(self, token: &Token<'_>) -> Option<State>
+    fn next(self, token: &Token<'_>) -> Option<State>
         requires { ⌜ depth-of self + 1 < 2 ^ 64 ⌝ }
         ensures { λ r. ⌜ r ≡ next-of self (lexeme-of (now (token .entry))) ⌝ }
     {
         let kind = token.kind;
         match self {
-            State::Start => expect(is_kind(kind, Kind::Word) && is_word(token.bytes, b"cnf"), State::Opening),
+            State::Start => expect(
+                is_kind(kind, Kind::Word) && is_word(token.bytes, b"cnf"),
+                State::Opening,
+            ),
             State::Opening => expect(is_kind(kind, Kind::Open), State::Name),
             State::Name => expect(is_kind(kind, Kind::Word), State::NameComma),
             State::NameComma => expect(is_kind(kind, Kind::Comma), State::Role),
@@ -105,7 +131,11 @@ impl State {
             State::Term(spot) => spot.start(kind),
             State::Named(spot) if is_kind(kind, Kind::Open) => {
                 let depth = spot.depth + 1;
-                Some(State::Term(Spot { depth, right: spot.right, wrapped: spot.wrapped }))
+                Some(State::Term(Spot {
+                    depth,
+                    right: spot.right,
+                    wrapped: spot.wrapped,
+                }))
             }
             State::Named(spot) => spot.behind(kind),
             State::Closed(spot) => spot.behind(kind),
@@ -114,4 +144,18 @@ impl State {
             State::Done => None,
         }
     }
+}
+
+// The place behind the formula that begins at `at`.
+pub fn formula_end(text: &[u8], at: usize) -> Result<usize, Fault>
+    ensures { λ r. ⌜ Walked (now (text .entry)) at r ⌝ }
+{
+    let mut state = State::Start;
+    let mut end = at;
+    while !state.is_done() {
+        let token = next_token(text, end).ok_or(Fault { place: text.len() })?;
+        state = state.next(&token).ok_or(Fault { place: token.place })?;
+        end = token.place + token.bytes.len();
+    }
+    Ok(end)
 }
