@@ -37,6 +37,7 @@ module _ (t : List ℕ) (n : ℕ) (small : n < 2 ^ 64) (is : t ≡ decimal n) wh
 
   pub zero-alone : 1 < length t → getD t 0 0 ≡ 48 → ⊥
   zero-alone long zero =
-    elim (cases-lt 0 n) [
-      inl some ↦ omega (arith, first-decimal n some small, ap (λ (xs : List ℕ). getD xs 0 0) is)
-    | inr none ↦ omega (arith, ap length is, ap length (decimal-digit n (omega arith))) ]
+      elim (cases-lt 0 n) [
+        | inl some ↦ omega (arith, first-decimal n some small, ap (λ (xs : List ℕ). getD xs 0 0) is)
+        | inr none ↦ omega (arith, ap length is, ap length (decimal-digit n (omega arith)))
+      ]

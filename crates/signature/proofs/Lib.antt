@@ -1,1 +1,2 @@
 pub mod Symbols
+mod Cuts
