@@ -4,6 +4,8 @@ use crate::name::Name;
 
 mod methods;
 
+pub use methods::position;
+
 #[derive(Clone, Copy)]
 pub struct Symbol {
     name: Name,
