@@ -4,3 +4,6 @@ pub mod name;
 pub mod signature;
 pub mod symbol;
 pub mod words;
+
+#[cfg(test)]
+mod tests;
