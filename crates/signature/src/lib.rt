@@ -3,7 +3,6 @@ mod line;
 pub mod name;
 pub mod signature;
 pub mod symbol;
-pub mod words;
-
 #[cfg(test)]
 mod tests;
+pub mod words;

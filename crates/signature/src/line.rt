@@ -16,13 +16,13 @@ struct Field<'a> {
 
 // The symbol of a line, and how long the line is.
 #[derive(Clone, Copy)]
-pub struct First {
+pub(crate) struct First {
     pub symbol: Symbol,
     pub len: usize,
 }
 
 // The symbol of the line that the text begins with, if the line is well formed.
-pub fn first_line(text: &[u8]) -> Option<First>
+pub(crate) fn first_line(text: &[u8]) -> Option<First>
     ensures { λ r. ⌜ BySome r ((l : LineOf) (after : List ℕ) → WellFormed l → now (text .entry) ≡ text-of l ++ after → ⊥) (λ f. (now (text .entry) ≡ text-of (line-of (f .symbol)) ++ drop (f .len) (now (text .entry))) × (f .len ≤ length (now (text .entry))) × (0 < f .len)) ⌝ }
 {
     let name = cut(text, b'\t')?;

@@ -4,7 +4,7 @@ use crate::name::Name;
 
 mod methods;
 
-pub use methods::position;
+pub(crate) use methods::position;
 
 #[derive(Clone, Copy)]
 pub struct Symbol {

@@ -17,7 +17,16 @@ fn refused_at(text: &[u8]) -> usize {
 fn lines(heap: Global, count: u8) -> Result<Vec<u8>, AllocError> {
     let mut text = Vec::new(heap);
     for i in 0..count {
-        for byte in [b'a', b'0' + i / 10, b'0' + i % 10, b'\t', b'0', b'\t', b'1', b'\n'] {
+        for byte in [
+            b'a',
+            b'0' + i / 10,
+            b'0' + i % 10,
+            b'\t',
+            b'0',
+            b'\t',
+            b'1',
+            b'\n',
+        ] {
             text.push(byte)?;
         }
     }

@@ -11,7 +11,7 @@ use crate::words::is_word;
 
 impl Name {
     // The name that is spelled like this, if it is a word and short enough.
-    pub fn new(text: &[u8]) -> Option<Name>
+    pub(crate) fn new(text: &[u8]) -> Option<Name>
         ensures { λ r. ⌜ BySome r (is-word (now (text .entry)) ≡ true → length (now (text .entry)) ≤ 16 → ⊥) (λ n. spelled n ≡ now (text .entry)) ⌝ }
     {
         let len = text.len();
@@ -31,7 +31,7 @@ impl Name {
     }
 
     // Whether the name is spelled like this.
-    pub fn is(&self, text: &[u8]) -> bool
+    pub(crate) fn is(&self, text: &[u8]) -> bool
         ensures { λ r. ⌜ Decides r (spelled (now (self .entry)) ≡ now (text .entry)) ⌝ }
     {
         self.bytes() == text

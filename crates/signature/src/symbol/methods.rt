@@ -11,7 +11,7 @@ use crate::name::Name;
 
 impl Symbol {
     // The symbol of a line's three fields, if each is well formed.
-    pub fn new(name: &[u8], arity: &[u8], weight: &[u8]) -> Option<Symbol>
+    pub(crate) fn new(name: &[u8], arity: &[u8], weight: &[u8]) -> Option<Symbol>
         ensures { λ r. ⌜ BySome r ((l : Line) → WellFormed l → Fields l (now (name .entry)) (now (arity .entry)) (now (weight .entry)) → ⊥) (λ s. Fields (line-of s) (now (name .entry)) (now (arity .entry)) (now (weight .entry))) ⌝ }
     {
         let name = Name::new(name)?;
@@ -27,19 +27,19 @@ impl Symbol {
         })
     }
 
-    pub fn name(&self) -> Name
+    pub(crate) fn name(&self) -> Name
         ensures { λ r. ⌜ r ≡ now (self .entry) .name ⌝ }
     {
         self.name
     }
 
-    pub fn arity(&self) -> u8
+    pub(crate) fn arity(&self) -> u8
         ensures { λ r. ⌜ r ≡ now (self .entry) .arity ⌝ }
     {
         self.arity
     }
 
-    pub fn weight(&self) -> u8
+    pub(crate) fn weight(&self) -> u8
         ensures { λ r. ⌜ r ≡ now (self .entry) .weight ⌝ }
     {
         self.weight
@@ -47,7 +47,7 @@ impl Symbol {
 }
 
 // The place of the symbol of this name.
-pub fn position(symbols: &[Symbol], name: &[u8]) -> Option<usize>
+pub(crate) fn position(symbols: &[Symbol], name: &[u8]) -> Option<usize>
     ensures { λ r. ⌜ BySome r (Absent (now (name .entry)) (names (now (symbols .entry)))) (λ k. (k < length (now (symbols .entry))) × (getD (names (now (symbols .entry))) k [] ≡ now (name .entry))) ⌝ }
 {
     for (k, symbol) in symbols.iter().enumerate() {
