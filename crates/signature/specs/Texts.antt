@@ -76,12 +76,3 @@ pub record Fields (l : Line) (name arity weight : List ℕ) : Type 0 where
   pub name-is : name ≡ l .name
   pub arity-is : arity ≡ decimal (l .arity)
   pub weight-is : weight ≡ decimal (l .weight)
-
--- the byte c is not in the text
-abbrev pub Without : ℕ → List ℕ → Type 0
-Without c bs = All (λ b. b ≡ c → ⊥) bs
-
--- the text up to the first c, and after it
-pub record Cut (c : ℕ) (text field after : List ℕ) : Type 0 where
-  pub whole : text ≡ field ++ (c ∷ after)
-  pub first : Without c field

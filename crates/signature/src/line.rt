@@ -4,15 +4,10 @@ ghost use mathlib.Core.List.{List, _++_};
 ghost use Prim.Native.Nat.{ℕ, _≤_, _<_};
 ghost use lib.ListN.{length, drop};
 ghost use Rattle.std.specs.Options.{Cases as BySome};
-ghost use Rattle.signature.specs.Texts.{Line as LineOf, WellFormed, Without, Cut, text-of};
+ghost use Rattle.signature.specs.Texts.{Line as LineOf, WellFormed, text-of};
 ghost use Rattle.signature.specs.Signatures.{line-of};
 use crate::symbol::Symbol;
-
-#[derive(Clone, Copy)]
-struct Field<'a> {
-    bytes: &'a [u8],
-    after: &'a [u8],
-}
+use fields::cut;
 
 // The symbol of a line, and how long the line is.
 #[derive(Clone, Copy)]
@@ -33,19 +28,4 @@ pub(crate) fn first_line(text: &[u8]) -> Option<First>
         symbol,
         len: text.len() - weight.after.len(),
     })
-}
-
-// The text up to the first byte `end`, and after it.
-fn cut<'a>(text: &'a [u8], end: u8) -> Option<Field<'a>>
-    ensures { λ r. ⌜ BySome r (Without end (now (text .entry))) (λ f. Cut end (now (text .entry)) (f .bytes .now) (f .after .now)) ⌝ }
-{
-    for (i, byte) in text.iter().enumerate() {
-        if *byte == end {
-            return Some(Field {
-                bytes: &text[..i],
-                after: &text[i + 1..],
-            });
-        }
-    }
-    None
 }

@@ -8,6 +8,7 @@ ghost use Rattle.signature.specs.Texts.{Line, WellFormed, Fields};
 ghost use Rattle.signature.specs.Signatures.{line-of};
 use super::Symbol;
 use crate::name::Name;
+use fields::number;
 
 impl Symbol {
     // The symbol of a line's three fields, if each is well formed.
@@ -15,8 +16,8 @@ impl Symbol {
         ensures { λ r. ⌜ BySome r ((l : Line) → WellFormed l → Fields l (now (name .entry)) (now (arity .entry)) (now (weight .entry)) → ⊥) (λ s. Fields (line-of s) (now (name .entry)) (now (arity .entry)) (now (weight .entry))) ⌝ }
     {
         let name = Name::new(name)?;
-        let arity = numeral::read(arity, 4)?;
-        let weight = numeral::read(weight, 100)?;
+        let arity = number(arity, 4)?;
+        let weight = number(weight, 100)?;
         if weight == 0 {
             return None;
         }

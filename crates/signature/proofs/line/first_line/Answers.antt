@@ -4,9 +4,10 @@ use Prim.Native.Nat.{ℕ, _-_, _≤_, _<_}
 use native.Mathlib.Omega.{arith}
 use lib.ListN.{length, length-append}
 use Rattle.std.specs.Written.{decimal}
-use Rattle.signature.specs.Texts.{Without, text-of}
+use Rattle.signature.specs.Texts.{text-of}
 use Rattle.signature.specs.Signatures.{line-of}
-use Rattle.signature.proofs.Cuts.{uncut, flat, name-cut, arity-cut, weight-cut, line-whole, past, text-some}
+use Rattle.fields.proofs.Cutting.{uncut}
+use Rattle.signature.proofs.Cuts.{flat, name-cut, arity-cut, weight-cut, line-whole, past, text-some}
 use Rattle.signature.proofs.line.first_line.Needs as need
 
 pub returns-in-Break-name : need.returns-in-Break-name

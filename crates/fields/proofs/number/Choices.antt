@@ -2,8 +2,8 @@ use mathlib.Core.Path.{_≡_}
 use Prim.Native.Nat.{_≤_}
 use lib.ListN.{drop}
 use Rattle.std.specs.shelf.Text.{allDigits}
-use Rattle.numeral.proofs.Digits.{value}
-use Rattle.numeral.proofs.read.Given as given
+use Rattle.fields.proofs.Digits.{value}
+use Rattle.fields.proofs.number.Given as given
 
 abbrev pub Inv-loop-digit : given.InvT-loop-digit
 Inv-loop-digit l =

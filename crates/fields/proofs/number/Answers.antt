@@ -11,8 +11,8 @@ use Rattle.std.specs.Written.{decimal}
 use Rattle.std.proofs.shelf.Lists.{drop-more, drop-all}
 use Rattle.std.proofs.shelf.Tests.{and-left}
 use Rattle.std.proofs.shelf.Decimals.{decimal-value}
-use Rattle.numeral.proofs.Digits.{own, value, value-grows, digits-all, value-is, length-some, zero-alone}
-use Rattle.numeral.proofs.read.Needs as need
+use Rattle.fields.proofs.Digits.{own, value, value-grows, digits-all, value-is, length-some, zero-alone}
+use Rattle.fields.proofs.number.Needs as need
 
 pub returns-in-empty : need.returns-in-empty
 returns-in-empty c n most is =

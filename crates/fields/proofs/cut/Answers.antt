@@ -4,8 +4,8 @@ use native.Mathlib.Omega.{arith}
 use lib.ListN.{length, take}
 use lib.Seq.{getD-take, length-take-le}
 use Rattle.std.proofs.shelf.Elements.{all-from-getD}
-use Rattle.signature.proofs.Cuts.{cut-at}
-use Rattle.signature.proofs.line.cut.Needs as need
+use Rattle.fields.proofs.Cutting.{cut-at}
+use Rattle.fields.proofs.cut.Needs as need
 
 pub returns-then-byte-end : need.returns-then-byte-end
 returns-then-byte-end c =
