@@ -14,8 +14,44 @@ use Rattle.bank.specs.declared.cell.Cell.the-variants.{Var, App}
 use Rattle.bank.specs.Rules.{Slots, Node, Fitting, Rules}
 use Rattle.bank.specs.Means.{Means, MeansAll, is-var, is-app, none, and, Laws}
 
-clash : {c : Cell} {x f a : ℕ} {args : List ℕ} → c ≡ Var x → c ≡ App f a args → ⊥
+pub clash : {c : Cell} {x f a : ℕ} {args : List ℕ} → c ≡ Var x → c ≡ App f a args → ⊥
 clash p q = let z : _≡_ {A = ℕ} 0 1 = cc in omega arith
+
+-- what a cell's term is, by the cell
+pub open-var : {b : List Cell} {i x : ℕ} {t : Term} → Means b i t → getD b i (Var 0) ≡ Var x → t ≡ var x
+open-var {x = x} (is-var {x = y} l e) q = let z : y ≡ x = cc in ap var z
+open-var (is-app l e h) q = absurd (clash q e)
+
+pub record Opened (b : List Cell) (f : ℕ) (js : List ℕ) (t : Term) : Type 0 where
+  pub terms : Terms
+  pub means : MeansAll b js terms
+  pub is : t ≡ app f terms
+
+pub open-app : {b : List Cell} {i f a : ℕ} {args : List ℕ} {t : Term} → Means b i t → getD b i (Var 0) ≡ App f a args → Opened b f (take a args) t
+open-app (is-var l e) q = absurd (clash e q)
+open-app {b = b} {f = f} {a = a} {args = args} (is-app {f = g} {a = m} {args = xs} {ts = ts} l e h) q =
+    let p : g ≡ f = cc in
+    let r : m ≡ a = cc in
+    let s : xs ≡ args = cc in
+    record { terms = ts; means = subst (λ ys. MeansAll b ys ts) (ap₂ take r s) h; is = ap (λ k. app k ts) p }
+
+pub open-none : {b : List Cell} {is : List ℕ} {ts : Terms} → MeansAll b is ts → is ≡ [] → ts ≡ nil
+open-none none e = refl
+open-none (and h hs) e = let z : _≡_ {A = ℕ} 0 1 = cc in absurd (let w : ⊥ = omega arith in w)
+
+pub record OpenedArgs (b : List Cell) (i : ℕ) (is : List ℕ) (ts : Terms) : Type 0 where
+  pub term : Term
+  pub terms : Terms
+  pub first : Means b i term
+  pub more : MeansAll b is terms
+  pub splits : ts ≡ term ▹ terms
+
+pub open-args : {b : List Cell} {i : ℕ} {is js : List ℕ} {ts : Terms} → MeansAll b js ts → js ≡ i ∷ is → OpenedArgs b i is ts
+open-args none e = let z : _≡_ {A = ℕ} 0 1 = cc in absurd (let w : ⊥ = omega arith in w)
+open-args {b = b} {i = i} {is = is} (and {i = j} {is = js} {t = t} {ts = ts} h hs) e =
+    let p : j ≡ i = cc in
+    let q : js ≡ is = cc in
+    record { term = t; terms = ts; first = subst (λ k. Means b k t) p h; more = subst (λ ks. MeansAll b ks ts) q hs; splits = refl }
 
 -- arguments that agree up to the arity agree as records
 same-slots : {i j a : ℕ} (xs ys : List ℕ) → Slots i a xs → Slots j a ys → a ≤ 4 → take a xs ≡ take a ys → xs ≡ ys
