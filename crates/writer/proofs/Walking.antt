@@ -7,7 +7,8 @@ use native.Mathlib.Numerals.{add-one}
 use native.Mathlib.Omega.{arith}
 use lib.ListN.{length, getD, take, drop, set, length-drop}
 use Rattle.std.specs.Written.{decimal}
-use Rattle.std.proofs.shelf.Lists.{take-more, take-more-set, take-set, reverse-append, length-reverse, length-take-le, drop-all, drop-more, getD-take, length-set}
+use Rattle.std.proofs.shelf.Lists.{length-take-le, drop-all, drop-more, getD-take, length-set}
+use Rattle.lent_list.proofs.Stacks.{peel, pushed, replaced, height}
 use Rattle.terms.specs.Term.{Term, Terms, var, app, nil, _▹_}
 use Rattle.terms.specs.Sig.{Sig}
 use Rattle.signature.specs.Written.{written, written-args, written-more}
@@ -34,23 +35,6 @@ pub mark-later : (k : ℕ) → (k ≡ 0 → ⊥) → mark-at k ≡ 44
 mark-later zero h = absurd (h refl)
 mark-later (suc k) h = refl
 
-peel : (st : List Frame) (d : ℕ) → 0 < d → d ≤ length st → reverse (take d st) ≡ getD st (d - 1) blank ∷ reverse (take (d - 1) st)
-peel st d pos h =
-    let e : d - 1 + 1 ≡ d = omega arith in
-    let l : d - 1 < length st = omega arith in
-    ap (λ k. reverse (take k st)) (sym e) ∙ (ap reverse (take-more st (d - 1) blank l) ∙ reverse-append (take (d - 1) st) (getD st (d - 1) blank ∷ []))
-
-pushed : (st : List Frame) (d : ℕ) (f : Frame) → d < length st → reverse (take (d + 1) (set st d f)) ≡ f ∷ reverse (take d st)
-pushed st d f l = ap reverse (take-more-set st d f l) ∙ reverse-append (take d st) (f ∷ [])
-
-replaced : (st : List Frame) (d : ℕ) (f : Frame) → 0 < d → d ≤ length st → reverse (take d (set st (d - 1) f)) ≡ f ∷ reverse (take (d - 1) st)
-replaced st d f pos h =
-    let e : d - 1 + 1 ≡ d = omega arith in
-    ap (λ k. reverse (take k (set st (d - 1) f))) (sym e) ∙ pushed st (d - 1) f (omega arith)
-
-height : (st : List Frame) (d : ℕ) → d ≤ length st → length (reverse (take d st)) ≡ d
-height st d h = length-reverse (take d st) ∙ length-take-le d st h
-
 module _ {S : Sig} {ns : List (List ℕ)} {b : List Cell} {st : List Frame} {d : ℕ} (walk : Walking S ns b st d) where
   pos : 0 < d
   pos = walk .some
@@ -66,7 +50,7 @@ module _ {S : Sig} {ns : List (List ℕ)} {b : List Cell} {st : List Frame} {d :
 
   pub opened : (text : List ℕ) → Left ns b (reverse (take d st)) text → Top text
   opened text left =
-      let s : Stacked ns b (getD st (d - 1) blank) (length (reverse (take (d - 1) st))) Under text = subst (λ fs. Left ns b fs text) (peel st d pos within) left in
+      let s : Stacked ns b (getD st (d - 1) blank) (length (reverse (take (d - 1) st))) Under text = subst (λ fs. Left ns b fs text) (peel st d blank pos within) left in
       subst (λ k. Stacked ns b (getD st (d - 1) blank) k Under text) (height st (d - 1) (omega arith)) s
 
   pub top-counted : getD st (d - 1) blank .cell < length b
