@@ -1,0 +1,3 @@
+// Enters terms into a bank.
+mod machine;
+mod note;
