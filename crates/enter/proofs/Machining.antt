@@ -7,25 +7,25 @@ use Prim.Native.Nat.{ℕ, zero, suc, _+_, _-_, _<_, _≤_}
 use native.Mathlib.Omega.{arith}
 use lib.Dec.{ltb}
 use lib.ListN.{length, getD, take, drop, set}
-use Rattle.std.specs.Options.{valueOr}
+use Rattle.std.specs.Options.{isSome}
 use Rattle.std.specs.declared.option.Option.{Option}
 use Rattle.std.specs.declared.option.Option.the-variants.{None, Some}
 use Rattle.std.proofs.shelf.Lists.{drop-all, drop-more, length-set}
-use Rattle.std.proofs.shelf.Tests.{cases-lt, and-parts, ltb-true}
+use Rattle.std.proofs.shelf.Tests.{cases-lt, and-parts, ltb-true, false≢true}
 use Rattle.lent_list.proofs.Stacks.{peel, pushed, replaced}
 use Rattle.terms.specs.Term.{Term, Terms, var, app, nil, _▹_, width}
-use Rattle.terms.specs.Preorder.{row, split, headed, in-front, Reads, small, all-small}
+use Rattle.terms.specs.Preorder.{row, split, headed, in-front, Reads, small, all-small, alone, Whole, Small}
 use Rattle.terms.specs.declared.pattern.Node.{Node}
 use Rattle.terms.specs.declared.pattern.Node.the-variants.{Var, App}
 use Rattle.bank.specs.declared.cell.Cell as cells
 use Rattle.bank.specs.declared.cell.Cell.the-variants as cell
 use Rattle.enter.specs.Enter.{Entry, note, chain, fill, blank, bound, enter, enters}
-use Rattle.enter.specs.Machine.{given, entered, after, whole, onward, forest, opens, later, wanted, Waiting, Sound, Ready, Holding, left, held, Turned, Finished, Delivered, idle}
+use Rattle.enter.specs.Machine.{given, entered, after, whole, onward, forest, opens, later, wanted, Waiting, Sound, Ready, Holding, left, held, Turned, Finished, Delivered, weight, Falls, idle}
 use Rattle.enter.specs.declared.machine.Open.{Open}
 use Rattle.enter.specs.declared.machine.Turn.{Turn}
 use Rattle.enter.specs.declared.machine.Turn.the-variants.{On, Done, Full}
 
-abbrev both : List cells.Cell → List ℕ → List cells.Cell × List ℕ
+abbrev pub both : List cells.Cell → List ℕ → List cells.Cell × List ℕ
 both b is = (b, is)
 
 pub chain-none : {A B : Type 0} (o : Option A) (k : A → Option B) → o ≡ None → chain o k ≡ None
@@ -78,7 +78,7 @@ record After (f a : ℕ) (o : Option Terms) (ts : Terms) : Type 0 where
   tall : a + width rest ≡ width all
   heads : ts ≡ app f front ▹ rest
 
-none-some : {X : Type 0} {x : X} → None ≡ Some x → ⊥
+pub none-some : {X : Type 0} {x : X} → None ≡ Some x → ⊥
 none-some e = let z : _≡_ {A = ℕ} 0 1 = cc in omega arith
 
 var-after : (x : ℕ) (o : Option Terms) (ts : Terms) → in-front (Var x) o ≡ Some ts → (all : Terms) × (o ≡ Some all) × (ts ≡ var x ▹ all)
@@ -307,3 +307,24 @@ pub held-left : (e o : Entry) (bindings : List (Option ℕ)) (nodes : List Node)
     → e ≡ held bindings nodes st d i v cs′ n′
 held-left e o bindings nodes st d i v cs cs′ n′ size p q =
     p ∙ chain-some o _ (take n′ cs′, v) q ∙ ap (λ m. after m bindings (opens st d) v (forest nodes i) (take n′ cs′)) (sym size)
+
+pub falls : (w : ℕ) (nodes : List Node) (st st′ : List Open) (d i v : ℕ) (t : Turn) → Delivered st d i v st′ t → weight nodes d i < w → Falls w nodes t
+falls w nodes st st′ d i v t (inl p) h = subst (Falls w nodes) (sym (p .2)) tt
+falls w nodes st st′ d i v t (inr p) h = subst (Falls w nodes) (sym (p .2)) h
+
+one-reads : (o : Option Terms) → isSome (alone o) ≡ true → Reads o 1
+one-reads None h = absurd (false≢true h)
+one-reads (Some nil) h = absurd (false≢true h)
+one-reads (Some (t ▹ nil)) h = record { terms = t ▹ nil; is = refl; tall = refl }
+one-reads (Some (t ▹ (u ▹ us))) h = absurd (false≢true h)
+
+pub ready : (nodes : List Node) (st : List Open) → Whole nodes → Small nodes → length nodes ≤ 32 → length nodes ≤ length st → Ready nodes st 0 0
+ready nodes st one small few deep = record {
+  sound = tt;
+  reads = one-reads (row nodes) one;
+  small = small;
+  few = few;
+  deep = omega arith;
+  room = deep;
+  within = omega arith;
+}

@@ -1,2 +1,3 @@
 pub mod Enter
 pub mod Machine
+pub mod Grown

@@ -3,7 +3,7 @@ use mathlib.Core.Path.{_≡_}
 use mathlib.Core.Bool.{true, false}
 use mathlib.Core.Logic.{_⊎_}
 use mathlib.Core.List.{List, [], _∷_, reverse}
-use Prim.Native.Nat.{ℕ, zero, suc, _+_, _-_, _<_, _≤_}
+use Prim.Native.Nat.{ℕ, _+_, _-_, _*_, _<_, _≤_}
 use lib.ListN.{length, getD, take, drop, set}
 use Rattle.std.specs.Options.{valueOr}
 use Rattle.std.specs.declared.option.Option.{Option}
@@ -100,6 +100,15 @@ abbrev pub Turned : Entry → List (Option ℕ) → List Node → List Open → 
 Turned e bindings nodes stack cells n (On depth i) = Ready nodes stack depth i × (e ≡ left bindings nodes stack depth i cells n)
 Turned e bindings nodes stack cells n (Done v) = e ≡ Some (take n cells, v)
 Turned e bindings nodes stack cells n Full = e ≡ None
+
+-- what is left to do: each node is taken once, and may wait once
+abbrev pub weight : List Node → ℕ → ℕ → ℕ
+weight nodes depth i = 2 * (length nodes - i) + depth
+
+abbrev pub Falls : ℕ → List Node → Turn → Type 0
+Falls w nodes (On depth i) = weight nodes depth i < w
+Falls w nodes (Done v) = Unit {0}
+Falls w nodes Full = Unit {0}
 
 -- an element that no stack shows
 abbrev pub idle : Open

@@ -5,7 +5,7 @@ ghost use Prim.Native.Nat.{_-_, _<_, _≤_};
 ghost use lib.ListN.{length, take, getD};
 ghost use Rattle.std.specs.declared.option.Option.the-variants.{None};
 ghost use Rattle.terms.specs.Preorder.{Whole, Small};
-ghost use Rattle.enter.specs.Machine.{Ready, Turned, Finished, Delivered, Grew, Gives, left, forest, whole, idle};
+ghost use Rattle.enter.specs.Machine.{Ready, Turned, Finished, Delivered, Grew, Gives, Falls, weight, left, forest, whole, idle};
 use crate::note::put;
 use crate::note::variable;
 use bank::cell::Cell;
@@ -28,30 +28,27 @@ pub enum Turn {
     Full,
 }
 
+// The nodes' term, each variable standing for what it is bound to.
 pub fn run(
     nodes: &[Node],
     bindings: &[Option<u16>],
     cells: &mut [Cell],
     count: &mut Count,
+    stack: &mut [Open],
 ) -> Option<u16>
     requires counted { ⌜ now count .len ≤ length (now cells) ⌝ }
     requires few { ⌜ length (now cells) ≤ 2048 ⌝ }
     requires short { ⌜ length (now nodes) ≤ 32 ⌝ }
     requires one { ⌜ Whole (now nodes) ⌝ }
     requires small { ⌜ Small (now nodes) ⌝ }
+    requires deep { ⌜ length (now nodes) ≤ length (now stack) ⌝ }
     ensures gives { λ r. ⌜ Gives (whole (length (now (cells .entry))) (now (bindings .entry)) (forest (now (nodes .entry)) 0) (take (now (count .entry) .len) (now (cells .entry)))) r (now (cells .exit)) (now (count .exit) .len) ⌝ }
     ensures grew { λ _. ⌜ Grew (now (cells .entry)) (now (count .entry) .len) (now (cells .exit)) (now (count .exit) .len) ⌝ }
 {
-    let mut stack = [Open {
-        symbol: 0,
-        arity: 0,
-        args: [0; 4],
-        have: 0,
-    }; 32];
     let mut depth = 0;
     let mut at = 0;
     loop {
-        match advance(nodes, bindings, cells, count, &mut stack, depth, at) {
+        match advance(nodes, bindings, cells, count, stack, depth, at) {
             Turn::On { depth: d, at: a } => {
                 depth = d;
                 at = a;
@@ -76,6 +73,7 @@ fn advance(
     requires few { ⌜ length (now cells) ≤ 2048 ⌝ }
     requires ready { ⌜ Ready (now nodes) (now stack) depth at ⌝ }
     ensures turned { λ r. ⌜ Turned (left (now (bindings .entry)) (now (nodes .entry)) (now (stack .entry)) depth at (now (cells .entry)) (now (count .entry) .len)) (now (bindings .entry)) (now (nodes .entry)) (now (stack .exit)) (now (cells .exit)) (now (count .exit) .len) r ⌝ }
+    ensures falls { λ r. ⌜ Falls (weight (now (nodes .entry)) depth at) (now (nodes .entry)) r ⌝ }
     ensures grew { λ _. ⌜ Grew (now (cells .entry)) (now (count .entry) .len) (now (cells .exit)) (now (count .exit) .len) ⌝ }
 {
     match finished(stack, depth) {
@@ -127,6 +125,7 @@ fn take_node(
     requires ready { ⌜ Ready (now nodes) (now stack) depth at ⌝ }
     requires waits { ⌜ Finished (now stack) depth None ⌝ }
     ensures turned { λ r. ⌜ Turned (left (now (bindings .entry)) (now (nodes .entry)) (now (stack .entry)) depth at (now (cells .entry)) (now (count .entry) .len)) (now (bindings .entry)) (now (nodes .entry)) (now (stack .exit)) (now (cells .exit)) (now (count .exit) .len) r ⌝ }
+    ensures falls { λ r. ⌜ Falls (weight (now (nodes .entry)) depth at) (now (nodes .entry)) r ⌝ }
     ensures grew { λ _. ⌜ Grew (now (cells .entry)) (now (count .entry) .len) (now (cells .exit)) (now (count .exit) .len) ⌝ }
 {
     let node = nodes[at];

@@ -3,7 +3,7 @@ use Prim.Native.Nat.{_-_}
 use native.Mathlib.Omega.{arith}
 use Rattle.std.specs.declared.option.Option.the-variants.{None, Some}
 use Rattle.enter.specs.Machine.{Turned}
-use Rattle.enter.proofs.Machining.{close-holding, close-left, deliver-room, delivered, held-left, chain-none}
+use Rattle.enter.proofs.Machining.{close-holding, close-left, deliver-room, delivered, falls, held-left, chain-none}
 use Rattle.enter.proofs.Noting.{put-gives, put-grew}
 use Rattle.enter.proofs.machine.advance.Needs as need
 
@@ -29,6 +29,7 @@ returns-in-Some-put c =
     record {
       turned = subst (λ z. Turned z bindings nodes (c .deliver .last .stack) now n (c .deliver .result)) (sym e)
           (delivered bindings now n v (c .deliver .last .stack) (c .deliver .result) (close-holding (c .pre .ready) (full .0) (full .1)) (c .deliver .ensures));
+      falls = falls _ nodes (c .args .stack .now) (c .deliver .last .stack) (c .args .depth - 1) (c .args .at) v (c .deliver .result) (c .deliver .ensures) (omega (arith, full .0));
       grew = grew;
     }
 
@@ -41,5 +42,6 @@ returns-in-None-put c =
     record {
       turned = close-left (c .args .bindings .now) before (c .args .count .now .len) (c .in-Some .cell) (c .pre .ready) full
           ∙ chain-none _ _ (put-gives before now (c .args .count .now .len) n (c .in-Some .cell) None (c .pre .counted) (c .in-None-put .ensures tt));
+      falls = tt;
       grew = put-grew before now (c .args .count .now .len) n (c .in-Some .cell) None (c .pre .counted) (c .in-None-put .ensures tt);
     }

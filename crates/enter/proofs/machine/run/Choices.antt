@@ -1,7 +1,5 @@
 use mathlib.Core.Path.{_≡_}
-use Prim.Native.Nat.{_+_, _-_, _*_}
-use lib.ListN.{length}
-use Rattle.enter.specs.Machine.{Ready, Grew, left}
+use Rattle.enter.specs.Machine.{Ready, Grew, left, weight}
 use Rattle.enter.proofs.machine.run.Given as given
 
 abbrev pub Inv-loop-d : given.InvT-loop-d
@@ -11,4 +9,4 @@ Inv-loop-d l =
     × (left (l .bindings) (l .nodes) (l .entry .stack) 0 0 (l .entry .cells) (l .entry .count .len) ≡ left (l .bindings) (l .nodes) (l .stack) (l .depth) (l .at) (l .cells) (l .count .len))
 
 abbrev pub μ-loop-d : given.MeasureT-loop-d
-μ-loop-d l = 2 * (length (l .nodes) - l .at) + l .depth
+μ-loop-d l = weight (l .nodes) (l .depth) (l .at)

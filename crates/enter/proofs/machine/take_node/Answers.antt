@@ -2,7 +2,7 @@ use mathlib.Core.Path.{refl, sym, subst, _∙_}
 use Prim.Native.Nat.{_+_}
 use native.Mathlib.Omega.{arith}
 use Rattle.enter.specs.Machine.{Turned}
-use Rattle.enter.proofs.Machining.{has-node, push-room, var-holding, var-left, app-ready, app-left, deliver-room, delivered, held-left, chain-none}
+use Rattle.enter.proofs.Machining.{has-node, push-room, var-holding, var-left, app-ready, app-left, deliver-room, delivered, falls, held-left, chain-none}
 use Rattle.enter.proofs.Noting.{grew-same}
 use Rattle.enter.proofs.machine.take_node.Needs as need
 
@@ -41,6 +41,7 @@ returns-in-Some c =
     record {
       turned = subst (λ z. Turned z bindings nodes (c .deliver .last .stack) now n (c .deliver .result)) (sym e)
           (delivered bindings now n (c .in-Some .value) (c .deliver .last .stack) (c .deliver .result) (var-holding (c .pre .ready) (c .pre .waits) (c .in-Var .x) (c .in-Var .is)) (c .deliver .ensures));
+      falls = falls _ nodes stack (c .deliver .last .stack) (c .args .depth) (c .args .at + 1) (c .in-Some .value) (c .deliver .result) (c .deliver .ensures) (omega (arith, has-node (c .pre .ready) (c .pre .waits)));
       grew = told .grew;
     }
 
@@ -48,6 +49,7 @@ pub returns-in-None : need.returns-in-None
 returns-in-None c = record {
   turned = var-left (c .pre .ready) (c .pre .waits) (c .in-Var .x) (c .in-Var .is) (c .args .bindings .now) (c .args .cells .now) (c .args .count .now .len)
       ∙ chain-none _ _ (c .in-None .ensures tt .gives);
+  falls = tt;
   grew = c .in-None .ensures tt .grew;
 }
 
@@ -57,5 +59,6 @@ returns-in-App c = record {
     app-ready (c .pre .ready) (c .pre .waits) (c .in-App .symbol) (c .in-App .arity) (c .in-App .is),
     app-left (c .pre .ready) (c .pre .waits) (c .in-App .symbol) (c .in-App .arity) (c .in-App .is) (c .args .bindings .now) (c .args .cells .now) (c .args .count .now .len),
   );
+  falls = omega (arith, has-node (c .pre .ready) (c .pre .waits));
   grew = grew-same (c .pre .counted) refl refl;
 }
