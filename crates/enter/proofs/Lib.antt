@@ -1,3 +1,4 @@
 pub mod Noting
 pub mod Machining
 pub mod Growing
+pub mod Rows

@@ -34,6 +34,10 @@ chain-none o k e = rw e
 pub chain-some : {A B : Type 0} (o : Option A) (k : A → Option B) (a : A) → o ≡ Some a → chain o k ≡ k a
 chain-some o k a e = rw e
 
+abbrev pub join : Terms → Terms → Terms
+join nil us = us
+join (t ▹ ts) us = t ▹ join ts us
+
 -- the front of a split, and what is left
 record Cut (k : ℕ) (ts : Terms) : Type 0 where
   front : Terms
@@ -41,13 +45,14 @@ record Cut (k : ℕ) (ts : Terms) : Type 0 where
   is : split k ts ≡ Some (front, rest)
   wide : width front ≡ k
   left : k + width rest ≡ width ts
+  joins : join front rest ≡ ts
 
 cut : (k : ℕ) (ts : Terms) → k ≤ width ts → Cut k ts
-cut zero ts h = record { front = nil; rest = ts; is = refl; wide = refl; left = omega arith }
+cut zero ts h = record { front = nil; rest = ts; is = refl; wide = refl; left = omega arith; joins = refl }
 cut (suc k) nil h = absurd (let z : ⊥ = omega arith in z)
 cut (suc k) (t ▹ ts) h =
     let s = cut k ts (omega arith) in
-    record { front = t ▹ s .front; rest = s .rest; is = rw (s .is); wide = ap suc (s .wide); left = omega (arith, s .left) }
+    record { front = t ▹ s .front; rest = s .rest; is = rw (s .is); wide = ap suc (s .wide); left = omega (arith, s .left); joins = ap (λ us. t ▹ us) (s .joins) }
 
 short : (k : ℕ) (ts : Terms) → width ts < k → split k ts ≡ None
 short zero ts h = absurd (let z : ⊥ = omega arith in z)
@@ -68,31 +73,32 @@ in-row ns i d r = elim (cases-lt i (length ns)) [
 at-node : (ns : List Node) (i : ℕ) (n : Node) → i < length ns → getD ns i (Var 0) ≡ n → row (drop i ns) ≡ in-front n (row (drop (i + 1) ns))
 at-node ns i n l e = ap row (drop-more ns i (Var 0) l) ∙ ap (λ m. in-front m (row (drop (i + 1) ns))) e
 
-record After (f a : ℕ) (o : Option Terms) (ts : Terms) : Type 0 where
-  all : Terms
-  front : Terms
-  rest : Terms
-  is : o ≡ Some all
-  cuts : split a all ≡ Some (front, rest)
-  wide : width front ≡ a
-  tall : a + width rest ≡ width all
-  heads : ts ≡ app f front ▹ rest
+pub record After (f a : ℕ) (o : Option Terms) (ts : Terms) : Type 0 where
+  pub all : Terms
+  pub front : Terms
+  pub rest : Terms
+  pub is : o ≡ Some all
+  pub cuts : split a all ≡ Some (front, rest)
+  pub wide : width front ≡ a
+  pub tall : a + width rest ≡ width all
+  pub joins : join front rest ≡ all
+  pub heads : ts ≡ app f front ▹ rest
 
 pub none-some : {X : Type 0} {x : X} → None ≡ Some x → ⊥
 none-some e = let z : _≡_ {A = ℕ} 0 1 = cc in omega arith
 
-var-after : (x : ℕ) (o : Option Terms) (ts : Terms) → in-front (Var x) o ≡ Some ts → (all : Terms) × (o ≡ Some all) × (ts ≡ var x ▹ all)
+pub var-after : (x : ℕ) (o : Option Terms) (ts : Terms) → in-front (Var x) o ≡ Some ts → (all : Terms) × (o ≡ Some all) × (ts ≡ var x ▹ all)
 var-after x None ts e = absurd (none-some e)
 var-after x (Some all) ts e = (all, refl, cc)
 
-app-after : (f a : ℕ) (o : Option Terms) (ts : Terms) → in-front (App f a) o ≡ Some ts → After f a o ts
+pub app-after : (f a : ℕ) (o : Option Terms) (ts : Terms) → in-front (App f a) o ≡ Some ts → After f a o ts
 app-after f a None ts e = absurd (none-some e)
 app-after f a (Some all) ts e = elim (cases-lt (width all) a) [
   | inl l ↦ absurd (none-some (sym (ap (headed f) (short a all l)) ∙ e))
   | inr g ↦
       let s = cut a all g in
       let h : Some (app f (s .front) ▹ s .rest) ≡ Some ts = sym (ap (headed f) (s .is)) ∙ e in
-      record { all = all; front = s .front; rest = s .rest; is = refl; cuts = s .is; wide = s .wide; tall = s .left; heads = cc }
+      record { all = all; front = s .front; rest = s .rest; is = refl; cuts = s .is; wide = s .wide; tall = s .left; joins = s .joins; heads = cc }
 ]
 
 small-at : (ns : List Node) (i : ℕ) → all-small ns ≡ true → i < length ns → small (getD ns i (Var 0)) ≡ true
@@ -150,7 +156,7 @@ module _ (m : ℕ) (bindings : List (Option ℕ)) where
       chain z (λ r. chain (note m (cell.App f a (fill blank 0 (r .1))) (r .0)) (λ q. next (q .1) rest (q .0)))
       ≡ chain (chain z (λ r. note m (cell.App f a (fill blank 0 (r .1))) (r .0))) (λ q. next (q .1) rest (q .0))) [ None ↦ refl | Some r ↦ refl ])
 
-forest-is : (nodes : List Node) (i : ℕ) (ts : Terms) → row (drop i nodes) ≡ Some ts → forest nodes i ≡ ts
+pub forest-is : (nodes : List Node) (i : ℕ) (ts : Terms) → row (drop i nodes) ≡ Some ts → forest nodes i ≡ ts
 forest-is nodes i ts e = rw e
 
 module _ {nodes : List Node} {st : List Open} {d i : ℕ} where
