@@ -1,1 +1,3 @@
 pub mod Escapes
+pub mod Spellings
+pub mod Says

@@ -1,3 +1,4 @@
 // The call script: one call to a line.
 pub mod call;
 pub mod text;
+pub mod words;
