@@ -8,6 +8,8 @@ use Rattle.std.specs.Of.Vec.{vec-items}
 use Rattle.std.specs.Written.{decimal}
 use Rattle.script.specs.Escapes.{Quoted}
 use Rattle.script.specs.Spellings.{word, order-word, index-word}
+use Rattle.script.specs.declared.call.Order.{Order}
+use Rattle.script.specs.declared.call.Index.{Index}
 use Rattle.script.specs.declared.call.Limits.{Limits}
 use Rattle.script.specs.declared.call.Goal.{Goal}
 use Rattle.script.specs.declared.call.Word.{Word}
@@ -73,3 +75,15 @@ Fields (Read text) rest = Quoted rest (vec-items text)
 -- the line says the call: its word alone, or its word, a space and its fields
 abbrev pub Says : Call → List ℕ → Type 0
 Says c line = ((c ≡ Release) × (line ≡ codes "release")) ⊎ ((rest : List ℕ) × (line ≡ word (word-of c) ++ (32 ∷ rest)) × Fields c rest)
+
+-- what can stand after the word and a space
+abbrev pub Form : Word → List ℕ → Type 0
+Form signature-word rest = (bytes : List ℕ) × Quoted rest bytes
+Form open-word rest = (n : ℕ) × ((o : Order) × ((i : Index) × NumberWords n (order-word o) (index-word i) rest))
+Form add-word rest = (n : ℕ) × ((bytes : List ℕ) × NumberText n bytes rest)
+Form remove-word rest = (n : ℕ) × Only n rest
+Form audit-word rest = (l : Limits) × TwoNumbers l rest
+Form release-word rest = ⊥
+Form simplify-word rest = (l : Limits) × ((bytes : List ℕ) × NumbersText l bytes rest)
+Form judge-word rest = (l : Limits) × ((bytes : List ℕ) × NumbersText l bytes rest)
+Form read-word rest = (bytes : List ℕ) × Quoted rest bytes

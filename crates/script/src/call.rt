@@ -41,8 +41,15 @@ pub enum Word {
 #[derive(Drop)]
 pub enum Call {
     Signature(Vec<u8>),
-    Open { number: u32, order: Order, index: Index },
-    Add { number: u32, formula: Vec<u8> },
+    Open {
+        number: u32,
+        order: Order,
+        index: Index,
+    },
+    Add {
+        number: u32,
+        formula: Vec<u8>,
+    },
     Remove(u32),
     Audit(Limits),
     Release,

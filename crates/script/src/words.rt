@@ -8,7 +8,7 @@ use crate::call::Index;
 use crate::call::Order;
 use crate::call::Word;
 
-pub fn word_of(text: &[u8]) -> Option<Word>
+pub(crate) fn word_of(text: &[u8]) -> Option<Word>
     ensures { λ r. ⌜ BySome r ((w : Word) → now (text .entry) ≡ word w → ⊥) (λ w. now (text .entry) ≡ word w) ⌝ }
 {
     if is(text, b"signature") {
@@ -34,7 +34,7 @@ pub fn word_of(text: &[u8]) -> Option<Word>
     }
 }
 
-pub fn order_of(text: &[u8]) -> Option<Order>
+pub(crate) fn order_of(text: &[u8]) -> Option<Order>
     ensures { λ r. ⌜ BySome r ((o : Order) → now (text .entry) ≡ order-word o → ⊥) (λ o. now (text .entry) ≡ order-word o) ⌝ }
 {
     if is(text, b"kbo") {
@@ -46,7 +46,7 @@ pub fn order_of(text: &[u8]) -> Option<Order>
     }
 }
 
-pub fn index_of(text: &[u8]) -> Option<Index>
+pub(crate) fn index_of(text: &[u8]) -> Option<Index>
     ensures { λ r. ⌜ BySome r ((i : Index) → now (text .entry) ≡ index-word i → ⊥) (λ i. now (text .entry) ≡ index-word i) ⌝ }
 {
     if is(text, b"list") {
@@ -59,7 +59,7 @@ pub fn index_of(text: &[u8]) -> Option<Index>
 }
 
 // Whether the text is this one.
-fn is(text: &[u8], fixed: &[u8]) -> bool
+pub(crate) fn is(text: &[u8], fixed: &[u8]) -> bool
     ensures { λ r. ⌜ Decides r (now (text .entry) ≡ now (fixed .entry)) ⌝ }
 {
     text == fixed
