@@ -1,3 +1,4 @@
 pub mod Escapes
 pub mod Spellings
 pub mod Says
+pub mod Replies

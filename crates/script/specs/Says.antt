@@ -1,11 +1,12 @@
 -- What a line of the script says.
 use mathlib.Core.Path.{_≡_}
 use mathlib.Core.Logic.{_⊎_}
-use mathlib.Core.List.{List, _∷_, _++_}
+use mathlib.Core.List.{List, [], _∷_, _++_}
 use Prim.Native.Nat.{ℕ, _≤_}
 use lib.Chars.{codes}
 use Rattle.std.specs.Of.Vec.{vec-items}
 use Rattle.std.specs.Written.{decimal}
+use Rattle.fields.specs.Cuts.{Cut, Without}
 use Rattle.script.specs.Escapes.{Quoted}
 use Rattle.script.specs.Spellings.{word, order-word, index-word}
 use Rattle.script.specs.declared.call.Order.{Order}
@@ -87,3 +88,7 @@ Form release-word rest = ⊥
 Form simplify-word rest = (l : Limits) × ((bytes : List ℕ) × NumbersText l bytes rest)
 Form judge-word rest = (l : Limits) × ((bytes : List ℕ) × NumbersText l bytes rest)
 Form read-word rest = (bytes : List ℕ) × Quoted rest bytes
+
+-- the text up to its first line feed and after it, or the whole text, if it has none
+abbrev pub FirstLine : List ℕ → List ℕ → List ℕ → Type 0
+FirstLine text line after = Cut 10 text line after ⊎ (Without 10 text × (line ≡ text) × (after ≡ []))

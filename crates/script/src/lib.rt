@@ -1,4 +1,5 @@
 // The call script: one call to a line.
+pub mod answer;
 pub mod call;
 pub mod line;
 pub mod text;

@@ -5,7 +5,7 @@ ghost use Prim.Native.Nat.{ℕ};
 ghost use Rattle.std.specs.Options.{Cases as BySome};
 ghost use Rattle.std.specs.Results.{Cases};
 ghost use Rattle.std.specs.Of.Vec.{vec-items};
-ghost use Rattle.script.specs.Says.{Says, Fields, Form, Leads, Only, TwoNumbers, NumberText, NumbersText, word-of};
+ghost use Rattle.script.specs.Says.{FirstLine, Says, Fields, Form, Leads, Only, TwoNumbers, NumberText, NumbersText, word-of};
 use crate::call::Call;
 use crate::call::Fault;
 use crate::call::Goal;
@@ -16,6 +16,7 @@ use crate::words::index_of;
 use crate::words::is;
 use crate::words::order_of;
 use crate::words::word_of;
+use fields::Field;
 use fields::cut;
 use fields::number;
 use std::alloc::Global;
@@ -25,6 +26,19 @@ use std::alloc::Global;
 struct Numbered<'a> {
     number: u32,
     after: &'a [u8],
+}
+
+// The first line of a script, without its line feed, and the script after it. The last line may lack its line feed.
+pub fn first_line<'a>(script: &'a [u8]) -> Field<'a>
+    ensures { λ r. ⌜ FirstLine (now (script .entry)) (r .bytes .now) (r .after .now) ⌝ }
+{
+    match cut(script, b'\n') {
+        Some(field) => field,
+        None => Field {
+            bytes: script,
+            after: &script[script.len()..],
+        },
+    }
 }
 
 // The call that the line says.
