@@ -4,3 +4,6 @@ pub mod call;
 pub mod line;
 pub mod text;
 mod words;
+
+#[cfg(test)]
+mod tests;
