@@ -6,11 +6,12 @@ use mathlib.Core.List.{List, [], _∷_, _++_}
 use Prim.Native.Nat.{ℕ, _+_, _-_, _*_, _/_, _%_, _≤_, _<_}
 use native.Mathlib.Omega.{arith}
 use lib.Dec.{eqb, ltb}
-use lib.ListN.{length, drop, getD}
+use lib.ListN.{length, take, drop, getD}
 use Rattle.std.specs.shelf.Lists.{All, joined}
 use Rattle.std.specs.declared.option.Option.{Option}
 use Rattle.std.specs.declared.option.Option.the-variants.{None, Some}
 use Rattle.std.proofs.shelf.Tests.{eq-eqb, ne-eqb}
+use Rattle.std.proofs.shelf.Lists.{take-rest}
 use Rattle.std.proofs.shelf.Ways.{tells}
 use Rattle.script.specs.Escapes.{short, hex-digit, hex-letter, as-code, pair, onto, barred, unescaped, escaped, coded, CodesStand, PlainStand}
 
@@ -19,7 +20,7 @@ abbrev pub before : List ℕ → Option (List ℕ) → Option (List ℕ)
 before [] o = o
 before (b ∷ bs) o = onto (Some b) (before bs o)
 
-pub before-push : (xs : List ℕ) (b : ℕ) (o : Option (List ℕ)) → before (xs ++ b ∷ []) o ≡ before xs (onto (Some b) o)
+before-push : (xs : List ℕ) (b : ℕ) (o : Option (List ℕ)) → before (xs ++ b ∷ []) o ≡ before xs (onto (Some b) o)
 before-push [] b o = refl
 before-push (x ∷ xs) b o = ap (onto (Some x)) (before-push xs b o)
 
@@ -30,6 +31,11 @@ before-none (x ∷ xs) = ap (onto (Some x)) (before-none xs)
 pub before-all : (xs : List ℕ) → before xs (Some []) ≡ Some xs
 before-all [] = refl
 before-all (x ∷ xs) = ap (onto (Some x)) (before-all xs)
+
+-- one more byte was read
+pub before-more : (text rest bytes pushed : List ℕ) (byte len : ℕ) → unescaped text ≡ before bytes (unescaped rest) → unescaped rest ≡ onto (Some byte) (unescaped (drop len rest)) → pushed ≡ bytes ++ byte ∷ [] → unescaped text ≡ before pushed (unescaped (take (length rest - len) (drop len rest)))
+before-more text rest bytes pushed byte len e f p =
+    rw (take-rest rest len, p, before-push bytes byte (unescaped (drop len rest))) (e ∙ ap (before bytes) f)
 
 pub plain-first : (t : List ℕ) → 0 < length t → (getD t 0 0 ≡ 92 → ⊥) → (getD t 0 0 ≡ 34 → ⊥) → (getD t 0 0 ≡ 10 → ⊥) → unescaped t ≡ onto (Some (getD t 0 0)) (unescaped (drop 1 t))
 plain-first [] h x y z = absurd (omega arith)

@@ -2,8 +2,7 @@
 pub mod answer;
 pub mod call;
 pub mod line;
-pub mod text;
-mod words;
-
 #[cfg(test)]
 mod tests;
+pub mod text;
+mod words;

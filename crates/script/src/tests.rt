@@ -27,11 +27,18 @@ fn texts(rt: LibcRuntime) -> Result<(), Fail> {
 #[test]
 fn good_lines(rt: LibcRuntime) -> Result<(), Fail> {
     check(matches!(parse(rt.alloc(), b"release"), Ok(Call::Release)))?;
-    check(matches!(parse(rt.alloc(), b"remove 999999999"), Ok(Call::Remove(999_999_999))))?;
+    check(matches!(
+        parse(rt.alloc(), b"remove 999999999"),
+        Ok(Call::Remove(999_999_999))
+    ))?;
     match parse(rt.alloc(), b"open 65535 lpo tree") {
-        Ok(Call::Open { number, order, index }) => {
-            check(number == 65_535 && order == Order::Lpo && index == Index::Tree)
-        }
+        Ok(
+            Call::Open {
+                number,
+                order,
+                index,
+            },
+        ) => { check(number == 65_535 && order == Order::Lpo && index == Index::Tree) }
         _ => Err(Fail::new("not read")),
     }
 }
