@@ -46,3 +46,30 @@ pub fn number(text: &[u8], most: u32) -> Option<u32>
     }
     Some(n as u32)
 }
+
+#[cfg(test)]
+mod tests {
+    use super::*;
+    use std::test::*;
+
+    #[test]
+    fn numbers() -> Result<(), Fail> {
+        check_eq(number(b"0", 4), Some(0))?;
+        check_eq(number(b"100", 100), Some(100))?;
+        check_eq(number(b"101", 100), None)?;
+        check_eq(number(b"4294967295", 4_294_967_295), Some(4_294_967_295))?;
+        check_eq(number(b"18446744073709551616", 4_294_967_295), None)?;
+        check_eq(number(b"", 4), None)?;
+        check_eq(number(b"00", 4), None)?;
+        check_eq(number(b"+1", 4), None)
+    }
+
+    #[test]
+    fn cuts() -> Result<(), Fail> {
+        let Some(field) = cut(b"a b c", b' ') else {
+            return Err(Fail::new("no space"));
+        };
+        check(field.bytes == b"a" && field.after == b"b c")?;
+        check(cut(b"abc", b' ').is_none())
+    }
+}

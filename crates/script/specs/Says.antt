@@ -12,7 +12,6 @@ use Rattle.script.specs.Spellings.{word, order-word, index-word}
 use Rattle.script.specs.declared.call.Order.{Order}
 use Rattle.script.specs.declared.call.Index.{Index}
 use Rattle.script.specs.declared.call.Limits.{Limits}
-use Rattle.script.specs.declared.call.Goal.{Goal}
 use Rattle.script.specs.declared.call.Word.{Word}
 use Rattle.script.specs.declared.call.Word.the-variants.{Signature as signature-word, Open as open-word, Add as add-word, Remove as remove-word, Audit as audit-word, Release as release-word, Simplify as simplify-word, Judge as judge-word, Read as read-word}
 use Rattle.script.specs.declared.call.Call.{Call}

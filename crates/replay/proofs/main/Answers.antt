@@ -1,11 +1,9 @@
 use mathlib.Core.Path.{_≡_, sym, ap}
 use mathlib.Core.Logic.{inl, inr}
-use mathlib.Core.List.{List, [], _∷_}
+use mathlib.Core.List.{List, _∷_}
 use Prim.Native.Nat.{ℕ, _<_}
 use native.Mathlib.Omega.{arith}
-use lib.Dec.{eqb}
 use lib.ListN.{length, length-append}
-use mathlib.Core.Bool.{false}
 use Rattle.std.proofs.shelf.Tests.{eqb-false}
 use Rattle.script.specs.Says.{FirstLine}
 use Rattle.replay.proofs.main.Needs as need

@@ -1,4 +1,4 @@
-use mathlib.Core.Path.{_≡_, subst}
+use mathlib.Core.Path.{subst}
 use Rattle.std.proofs.shelf.Results.{err-from-errBy}
 use Rattle.script.specs.Says.{Form}
 use Rattle.script.specs.declared.call.Word.{Word}

@@ -1,4 +1,3 @@
-use mathlib.Core.Path.{_≡_}
 use Rattle.std.specs.Written.{decimal}
 use Rattle.fields.proofs.Cutting.{uncut}
 use Rattle.script.proofs.Spaces.{leads-cut}

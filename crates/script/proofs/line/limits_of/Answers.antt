@@ -1,4 +1,4 @@
-use mathlib.Core.Path.{_≡_, subst}
+use mathlib.Core.Path.{subst}
 use Rattle.script.specs.Says.{Only}
 use Rattle.script.proofs.Spaces.{same-more}
 use Rattle.script.proofs.line.limits_of.Needs as need

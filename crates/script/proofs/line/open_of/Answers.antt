@@ -1,4 +1,4 @@
-use mathlib.Core.Path.{_≡_, sym, _∙_}
+use mathlib.Core.Path.{sym, _∙_}
 use Rattle.fields.proofs.Cutting.{uncut, cut-is}
 use Rattle.script.specs.Spellings.{order-word, index-word}
 use Rattle.script.proofs.Spaces.{same-more, order-free}
