@@ -52,16 +52,24 @@ mod tests {
     use super::*;
     use std::test::*;
 
+    // Texts, with the number that each writes, if it is at most the last one.
+    static NUMBERS: [(&[u8], Option<u32>, u32); 8] = [
+        (b"0", Some(0), 4),
+        (b"100", Some(100), 100),
+        (b"101", None, 100),
+        (b"4294967295", Some(4_294_967_295), 4_294_967_295),
+        (b"18446744073709551616", None, 4_294_967_295),
+        (b"", None, 4),
+        (b"00", None, 4),
+        (b"+1", None, 4),
+    ];
+
     #[test]
     fn numbers() -> Result<(), Fail> {
-        check_eq(number(b"0", 4), Some(0))?;
-        check_eq(number(b"100", 100), Some(100))?;
-        check_eq(number(b"101", 100), None)?;
-        check_eq(number(b"4294967295", 4_294_967_295), Some(4_294_967_295))?;
-        check_eq(number(b"18446744073709551616", 4_294_967_295), None)?;
-        check_eq(number(b"", 4), None)?;
-        check_eq(number(b"00", 4), None)?;
-        check_eq(number(b"+1", 4), None)
+        for (text, value, most) in &NUMBERS {
+            check_eq(number(text, *most), *value)?;
+        }
+        Ok(())
     }
 
     #[test]

@@ -6,12 +6,23 @@ use crate::call::Order;
 use crate::call::OrderPartialEq;
 use crate::line::parse;
 use crate::text::quoted;
-use std::alloc::Global;
 use std::test::*;
 
-fn is_malformed(heap: Global, line: &[u8]) -> bool {
-    matches!(parse(heap, line), Err(Fault::Malformed))
-}
+// Lines that say nothing.
+static MALFORMED: [&[u8]; 12] = [
+    b"",
+    b"release ",
+    b" release",
+    b"Release",
+    b"remove 1000000000",
+    b"remove 07",
+    b"remove",
+    b"open 1  lpo tree",
+    b"open 1 lpo trees",
+    b"audit 1",
+    b"read text",
+    b"add 1 \"a\" ",
+];
 
 #[test]
 fn texts(rt: LibcRuntime) -> Result<(), Fail> {
@@ -45,11 +56,8 @@ fn good_lines(rt: LibcRuntime) -> Result<(), Fail> {
 
 #[test]
 fn bad_lines(rt: LibcRuntime) -> Result<(), Fail> {
-    check(is_malformed(rt.alloc(), b""))?;
-    check(is_malformed(rt.alloc(), b"release "))?;
-    check(is_malformed(rt.alloc(), b" release"))?;
-    check(is_malformed(rt.alloc(), b"remove 1000000000"))?;
-    check(is_malformed(rt.alloc(), b"remove 07"))?;
-    check(is_malformed(rt.alloc(), b"open 1  lpo tree"))?;
-    check(is_malformed(rt.alloc(), b"read text"))
+    for line in &MALFORMED {
+        check(matches!(parse(rt.alloc(), line), Err(Fault::Malformed)))?;
+    }
+    Ok(())
 }
