@@ -1,0 +1,5 @@
+pub mod Over
+pub mod Count
+pub mod LexAcc
+pub mod Kbo
+pub mod Lpo

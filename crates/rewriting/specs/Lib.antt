@@ -1,0 +1,5 @@
+pub mod Replace
+pub mod Order
+pub mod Count
+pub mod Kbo
+pub mod Lpo
