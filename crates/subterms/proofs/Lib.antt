@@ -1,0 +1,3 @@
+pub mod Preorders
+pub mod Places
+pub mod Patterns
