@@ -5,6 +5,8 @@ ghost use Prim.Native.Nat.{_≤_};
 ghost use lib.ListN.{take, length};
 ghost use Rattle.signature.specs.Words.{is-word};
 
+mod methods;
+
 #[derive(Clone, Copy)]
 pub struct Name {
     bytes: [u8; 16],

@@ -14,9 +14,21 @@ pub struct Symbol {
 }
 
 impl Symbol {
+    pub fn name(&self) -> Name
+        ensures { λ r. ⌜ r ≡ now (self .entry) .name ⌝ }
+    {
+        self.name
+    }
+
     pub fn arity(&self) -> u8
         ensures { λ r. ⌜ r ≡ now (self .entry) .arity ⌝ }
     {
         self.arity
+    }
+
+    pub fn weight(&self) -> u8
+        ensures { λ r. ⌜ r ≡ now (self .entry) .weight ⌝ }
+    {
+        self.weight
     }
 }
