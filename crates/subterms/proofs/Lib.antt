@@ -1,3 +1,4 @@
 pub mod Preorders
 pub mod Places
 pub mod Patterns
+pub mod Counting

@@ -8,6 +8,7 @@ ghost use Rattle.subterms.specs.Places.{at};
 use terms::pattern::Node;
 
 mod methods;
+pub mod variables;
 
 // The nodes of a pattern in preorder; the subterm at place p ends before place ends[p].
 #[derive(Clone, Copy)]
