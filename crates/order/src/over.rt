@@ -22,6 +22,13 @@ pub fn is_over(signature: &Signature, pattern: &Pattern) -> bool
     true
 }
 
+// Whether both patterns are over the signature.
+pub fn are_over(signature: &Signature, s: &Pattern, t: &Pattern) -> bool
+    ensures { λ r. ⌜ Decides r (Over (sig-of (now (signature .entry))) (term-of (now (s .entry))) × Over (sig-of (now (signature .entry))) (term-of (now (t .entry)))) ⌝ }
+{
+    is_over(signature, s) && is_over(signature, t)
+}
+
 fn is_known(signature: &Signature, node: Node) -> bool
     ensures { λ r. ⌜ r ≡ known (sig-of (now (signature .entry))) node ⌝ }
 {

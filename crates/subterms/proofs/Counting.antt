@@ -46,9 +46,9 @@ mutual
 -- a row covers another if their terms do
 pub covers-preorder : (s t : Term) (ms ns : List Node) → ms ≡ preorder s → ns ≡ preorder t → (r : Bool) → Decides r (CoversRow ms ns) → Decides r (Covers s t)
 covers-preorder s t ms ns es et r d =
-  let down : (x : ℕ) → occurring x ms ≡ count x s = λ x. ap (occurring x) es ∙ occurring-preorder x s in
-  let low : (x : ℕ) → occurring x ns ≡ count x t = λ x. ap (occurring x) et ∙ occurring-preorder x t in
-  decides-like r (λ h x. omega (arith, h x, down x, low x)) (λ h x. omega (arith, h x, down x, low x)) d
+    let down : (x : ℕ) → occurring x ms ≡ count x s = λ x. ap (occurring x) es ∙ occurring-preorder x s in
+    let low : (x : ℕ) → occurring x ns ≡ count x t = λ x. ap (occurring x) et ∙ occurring-preorder x t in
+    decides-like r (λ h x. omega (arith, h x, down x, low x)) (λ h x. omega (arith, h x, down x, low x)) d
 
 module _ (ms ns : List Node) where
   found : (x : ℕ) (n : Node) → covered ms ns n ≡ true → 1 ≤ occurs-in x n → occurring x ns ≤ occurring x ms

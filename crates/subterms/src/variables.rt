@@ -21,7 +21,10 @@ fn is_covered(s: &[Node], t: &[Node], node: Node) -> bool
 {
     match node {
         Node::Var(x) => occurrences(t, x) <= occurrences(s, x),
-        Node::App { symbol: _, arity: _ } => true,
+        Node::App {
+            symbol: _,
+            arity: _,
+        } => true,
     }
 }
 
@@ -39,13 +42,10 @@ fn one_if(node: Node, x: u8) -> usize
     ensures { λ r. ⌜ r ≡ occurs-in x node ⌝ }
 {
     match node {
-        Node::Var(y) => {
-            if x == y {
-                1
-            } else {
-                0
-            }
-        }
-        Node::App { symbol: _, arity: _ } => 0,
+        Node::Var(y) => { if x == y { 1 } else { 0 } }
+        Node::App {
+            symbol: _,
+            arity: _,
+        } => 0,
     }
 }
