@@ -2,3 +2,4 @@ pub mod Preorders
 pub mod Places
 pub mod Patterns
 pub mod Counting
+pub mod Tables

@@ -1,0 +1,63 @@
+-- Reading a table of subterms.
+use mathlib.Core.Path.{_≡_, refl, sym, ap, ap₂, _∙_}
+use mathlib.Core.Bool.{Bool}
+use mathlib.Core.List.{List, append-nil}
+use Prim.Native.Nat.{ℕ, _+_, _-_, _≤_, _<_}
+use native.Mathlib.Omega.{arith}
+use lib.ListN.{length, take, drop, getD}
+use Rattle.std.specs.declared.option.Option.the-variants.{Some}
+use Rattle.std.proofs.shelf.Lists.{length-take-le, take-take, drop-take, getD-take}
+use Rattle.terms.specs.Term.{Term, Terms, _▹_, nil, cells}
+use Rattle.terms.specs.Preorder.{decode, preorder, preorders}
+use Rattle.terms.specs.Patterns.{nodes-of, term-of}
+use Rattle.terms.specs.declared.pattern.Node.{Node}
+use Rattle.terms.specs.declared.pattern.Pattern.{Pattern}
+use Rattle.terms.proofs.Rows.{decode-preorder}
+use Rattle.subterms.specs.Places.{from, at, leading}
+use Rattle.subterms.specs.Rows.{row-of}
+use Rattle.subterms.specs.declared.Subterms.{Subterms}
+use Rattle.subterms.proofs.Preorders.{cells-some}
+use Rattle.subterms.proofs.Places.{from-next, from-whole, end-within, slice-is}
+
+some-inj : {x y : Term} → Some x ≡ Some y → x ≡ y
+some-inj e = cc
+
+-- equal rows are of equal terms
+pub preorder-inj : (s t : Term) → preorder s ≡ preorder t → s ≡ t
+preorder-inj s t e = some-inj (sym (decode-preorder s) ∙ ap decode e ∙ decode-preorder t)
+
+module _ (s : Subterms) where
+  pub row-length : length (row-of s) ≡ s .len
+  row-length = length-take-le (s .len) (s .nodes) (omega (arith, s .short, s .room))
+
+  module _ (p : ℕ) (h : p < s .len) where
+    within-row : p < length (row-of s)
+    within-row = omega (arith, row-length)
+
+    pub end-is : getD (s .ends) p 0 ≡ p + cells (at (row-of s) p)
+    end-is = s .ended p h
+
+    pub end-past : p < getD (s .ends) p 0
+    end-past = omega (arith, end-is, cells-some (at (row-of s) p))
+
+    pub end-most : getD (s .ends) p 0 ≤ s .len
+    end-most = omega (arith, end-is, end-within (row-of s) (s .whole) p within-row, row-length)
+
+    -- what stands behind the subterm begins at its end
+    pub from-end : from (row-of s) p ≡ at (row-of s) p ▹ from (row-of s) (getD (s .ends) p 0)
+    from-end = from-next (row-of s) (s .whole) p within-row ∙ ap (λ (e : ℕ). at (row-of s) p ▹ from (row-of s) e) (sym end-is)
+
+    pub node-is : (d : Node) → getD (s .nodes) p d ≡ getD (row-of s) p d
+    node-is d = sym (getD-take (s .len) (s .nodes) p d h)
+
+    pub part-is : take (getD (s .ends) p 0 - p) (drop p (s .nodes)) ≡ preorder (at (row-of s) p)
+    part-is =
+        let k = cells (at (row-of s) p) in
+        let size : getD (s .ends) p 0 - p ≡ k = omega (arith, end-is) in
+        let room : k ≤ s .len - p = omega (arith, end-is, end-most) in
+        let cut : drop p (row-of s) ≡ take (s .len - p) (drop p (s .nodes)) = ap (λ (n : ℕ). drop p (take n (s .nodes))) (let e : s .len ≡ p + (s .len - p) = omega arith in e) ∙ drop-take p (s .len - p) (s .nodes) in
+        ap (λ (n : ℕ). take n (drop p (s .nodes))) size ∙ sym (take-take k (s .len - p) (drop p (s .nodes)) room) ∙ ap (take k) (sym cut) ∙ slice-is (row-of s) (s .whole) p within-row
+
+-- the term of the pattern is the subterm at place 0
+pub at-top : (s : Subterms) (p : Pattern) → row-of s ≡ nodes-of p → at (row-of s) 0 ≡ term-of p
+at-top s p e = ap (λ ns. at ns 0) e ∙ ap leading (from-whole (nodes-of p) (p .whole))
