@@ -63,7 +63,7 @@ module _ (w : ℕ → ℕ) (pos : (f : ℕ) → 1 ≤ w f) where
   kbo-covers (Kbo.by-head c e l) = c
   kbo-covers (Kbo.by-lex c e l) = c
 
-  kbo-weigh : {s t : Term} → Kbo w s t → weigh w t ≤ weigh w s
+  pub kbo-weigh : {s t : Term} → Kbo w s t → weigh w t ≤ weigh w s
   kbo-weigh (Kbo.by-weight c l) = omega arith
   kbo-weigh (Kbo.by-head c e l) = omega arith
   kbo-weigh (Kbo.by-lex c e l) = omega arith

@@ -3,3 +3,4 @@ pub mod Count
 pub mod LexAcc
 pub mod Kbo
 pub mod Lpo
+pub mod KboCases

@@ -39,6 +39,10 @@ pub rest-cons : (k : ℕ) (t : Term) (ts : Terms) → 0 < k → rest k (t ▹ ts
 rest-cons zero t ts h = absurd (omega arith)
 rest-cons (suc k) t ts h = let e : k ≡ suc k - 1 = omega arith in ap (λ n. rest n ts) e
 
+pub first-cons : (k : ℕ) (t : Term) (ts : Terms) → 0 < k → first k (t ▹ ts) ≡ t ▹ first (k - 1) ts
+first-cons zero t ts h = absurd (omega arith)
+first-cons (suc k) t ts h = let e : k ≡ suc k - 1 = omega arith in ap (λ n. t ▹ first n ts) e
+
 pub rest-rest : (j k : ℕ) (ts : Terms) → rest j (rest k ts) ≡ rest (j + k) ts
 rest-rest j zero ts = ap (λ n. rest n ts) (omega arith)
 rest-rest j (suc k) nil = rest-nil j ∙ ap (λ n. rest n nil) (let e : suc (j + k) ≡ j + suc k = omega arith in e)

@@ -7,17 +7,18 @@ use native.Mathlib.Omega.{arith}
 use lib.ListN.{length, take, drop, getD}
 use Rattle.std.specs.declared.option.Option.the-variants.{Some}
 use Rattle.std.proofs.shelf.Lists.{length-take-le, take-take, drop-take, getD-take}
-use Rattle.terms.specs.Term.{Term, Terms, _▹_, nil, cells}
+use Rattle.terms.specs.Term.{Term, Terms, var, app, _▹_, nil, width, cells}
 use Rattle.terms.specs.Preorder.{decode, preorder, preorders}
 use Rattle.terms.specs.Patterns.{nodes-of, term-of}
 use Rattle.terms.specs.declared.pattern.Node.{Node}
+use Rattle.terms.specs.declared.pattern.Node.the-variants.{Var, App}
 use Rattle.terms.specs.declared.pattern.Pattern.{Pattern}
 use Rattle.terms.proofs.Rows.{decode-preorder}
-use Rattle.subterms.specs.Places.{from, at, leading}
+use Rattle.subterms.specs.Places.{from, at, leading, args, arguments}
 use Rattle.subterms.specs.Rows.{row-of}
 use Rattle.subterms.specs.declared.Subterms.{Subterms}
-use Rattle.subterms.proofs.Preorders.{cells-some}
-use Rattle.subterms.proofs.Places.{from-next, from-whole, end-within, slice-is}
+use Rattle.subterms.proofs.Preorders.{first, rest, first-cons, width-first, cells-some}
+use Rattle.subterms.proofs.Places.{from-next, from-whole, from-var, from-app, args-there, width-from, end-within, slice-is}
 
 some-inj : {x y : Term} → Some x ≡ Some y → x ≡ y
 some-inj e = cc
@@ -57,6 +58,30 @@ module _ (s : Subterms) where
         let room : k ≤ s .len - p = omega (arith, end-is, end-most) in
         let cut : drop p (row-of s) ≡ take (s .len - p) (drop p (s .nodes)) = ap (λ (n : ℕ). drop p (take n (s .nodes))) (let e : s .len ≡ p + (s .len - p) = omega arith in e) ∙ drop-take p (s .len - p) (s .nodes) in
         ap (λ (n : ℕ). take n (drop p (s .nodes))) size ∙ sym (take-take k (s .len - p) (drop p (s .nodes)) room) ∙ ap (take k) (sym cut) ∙ slice-is (row-of s) (s .whole) p within-row
+
+    -- the arguments of the subterm are listed behind its head
+    node-args : (n : Node) → getD (row-of s) p (Var 0) ≡ n → (args (at (row-of s) p) ≡ first (arguments n) (from (row-of s) (p + 1))) × (arguments n ≤ width (from (row-of s) (p + 1)))
+    node-args (Var x) e = (ap (λ ts. args (leading ts)) (from-var (row-of s) (s .whole) p x within-row e), omega arith)
+    node-args (App f a) e = (ap (λ ts. args (leading ts)) (from-app (row-of s) (s .whole) p f a within-row e), args-there (row-of s) (s .whole) p f a within-row e)
+
+    pub args-are : (a : ℕ) → width (args (at (row-of s) p)) ≡ a → (args (at (row-of s) p) ≡ first a (from (row-of s) (p + 1))) × (a ≤ width (from (row-of s) (p + 1)))
+    args-are a e =
+        let n = getD (row-of s) p (Var 0) in
+        let h = node-args n refl in
+        let same : arguments n ≡ a = sym (width-first (arguments n) _ (h .1)) ∙ ap width (sym (h .0)) ∙ e in
+        (h .0 ∙ ap (λ (k : ℕ). first k (from (row-of s) (p + 1))) same, omega (arith, same, h .1))
+
+  -- one argument on: n arguments are listed from place i on
+  pub some-left : (i n : ℕ) → 0 < n → n ≤ width (from (row-of s) i) → i < s .len
+  some-left i n some most = omega (arith, width-from (row-of s) (s .whole) i, row-length)
+
+  pub next-arg : (i n : ℕ) → 0 < n → n ≤ width (from (row-of s) i) → (first n (from (row-of s) i) ≡ at (row-of s) i ▹ first (n - 1) (from (row-of s) (getD (s .ends) i 0))) × (n - 1 ≤ width (from (row-of s) (getD (s .ends) i 0)))
+  next-arg i n some most =
+      let e = from-end i (some-left i n some most) in
+      (ap (first n) e ∙ first-cons n _ _ some, omega (arith, ap width e))
+
+  pub row-some : 0 < s .len
+  row-some = omega (arith, width-from (row-of s) (s .whole) 0, row-length, ap width (from-whole (row-of s) (s .whole)))
 
 -- the term of the pattern is the subterm at place 0
 pub at-top : (s : Subterms) (p : Pattern) → row-of s ≡ nodes-of p → at (row-of s) 0 ≡ term-of p
