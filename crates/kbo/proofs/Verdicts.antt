@@ -14,7 +14,7 @@ use Rattle.terms.specs.declared.pattern.Node.the-variants.{Var, App}
 use Rattle.rewriting.specs.Count.{Covers, weigh}
 use Rattle.rewriting.specs.Kbo.{Kbo, KboLex}
 use Rattle.rewriting.proofs.KboCases.{not-var, not-to-var, not-heads, arguments-down, arguments-up}
-use Rattle.subterms.specs.Places.{args}
+use Rattle.rewriting.specs.Replace.{args}
 use Rattle.kbo.specs.Verdicts.{Says, SameHead, by-heads}
 use Rattle.kbo.specs.declared.heads.Verdict.{Verdict}
 use Rattle.kbo.specs.declared.heads.Verdict.the-variants.{Above, NotAbove, ByArguments}

@@ -1,7 +1,8 @@
 -- The first arguments of two subterms that differ.
 use Prim.Native.Nat.{ℕ, _<_}
 use Rattle.rewriting.specs.Kbo.{Kbo, KboLex}
-use Rattle.subterms.specs.Places.{at, args}
+use Rattle.rewriting.specs.Replace.{args}
+use Rattle.subterms.specs.Places.{at}
 use Rattle.subterms.specs.Rows.{row-of}
 use Rattle.subterms.specs.declared.Subterms.{Subterms}
 

@@ -4,3 +4,4 @@ pub mod LexAcc
 pub mod Kbo
 pub mod Lpo
 pub mod KboCases
+pub mod LpoCases

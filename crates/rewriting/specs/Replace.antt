@@ -1,6 +1,10 @@
--- One subterm replaced.
+-- The arguments of a term, and one subterm replaced.
 use Prim.Native.Nat.{ℕ}
-use Rattle.terms.specs.Term.{Term, Terms, app, _▹_}
+use Rattle.terms.specs.Term.{Term, Terms, var, app, nil, _▹_}
+
+abbrev pub args : Term → Terms
+args (var x) = nil
+args (app f ts) = ts
 
 -- us is ts with t for s in one argument place
 pub data Arg : Term → Term → Terms → Terms → Type 0 where

@@ -5,16 +5,18 @@ use mathlib.Core.List.{List, append-nil}
 use Prim.Native.Nat.{ℕ, _+_, _-_, _≤_, _<_}
 use native.Mathlib.Omega.{arith}
 use lib.ListN.{length, take, drop, getD}
+use Rattle.std.specs.Options.{valueOr}
 use Rattle.std.specs.declared.option.Option.the-variants.{Some}
-use Rattle.std.proofs.shelf.Lists.{length-take-le, take-take, drop-take, getD-take}
+use Rattle.std.proofs.shelf.Lists.{length-take-le, take-take, drop-take, drop-all, getD-take}
 use Rattle.terms.specs.Term.{Term, Terms, var, app, _▹_, nil, width, cells}
-use Rattle.terms.specs.Preorder.{decode, preorder, preorders}
+use Rattle.terms.specs.Preorder.{row, decode, preorder, preorders}
 use Rattle.terms.specs.Patterns.{nodes-of, term-of}
 use Rattle.terms.specs.declared.pattern.Node.{Node}
 use Rattle.terms.specs.declared.pattern.Node.the-variants.{Var, App}
 use Rattle.terms.specs.declared.pattern.Pattern.{Pattern}
 use Rattle.terms.proofs.Rows.{decode-preorder}
-use Rattle.subterms.specs.Places.{from, at, leading, args, arguments}
+use Rattle.rewriting.specs.Replace.{args}
+use Rattle.subterms.specs.Places.{from, at, leading, arguments}
 use Rattle.subterms.specs.Rows.{row-of}
 use Rattle.subterms.specs.declared.Subterms.{Subterms}
 use Rattle.subterms.proofs.Preorders.{first, rest, first-cons, width-first, cells-some}
@@ -64,6 +66,18 @@ module _ (s : Subterms) where
     node-args (Var x) e = (ap (λ ts. args (leading ts)) (from-var (row-of s) (s .whole) p x within-row e), omega arith)
     node-args (App f a) e = (ap (λ ts. args (leading ts)) (from-app (row-of s) (s .whole) p f a within-row e), args-there (row-of s) (s .whole) p f a within-row e)
 
+    pub args-wide : width (args (at (row-of s) p)) ≡ arguments (getD (row-of s) p (Var 0))
+    args-wide = let h = node-args (getD (row-of s) p (Var 0)) refl in ap width (h .0) ∙ width-first _ _ (h .1)
+
+    pub at-var : (x : ℕ) → getD (s .nodes) p (Var 0) ≡ Var x → at (row-of s) p ≡ var x
+    at-var x e = ap leading (from-var (row-of s) (s .whole) p x within-row (sym (node-is (Var 0)) ∙ e))
+
+    pub at-app : (f a : ℕ) → getD (s .nodes) p (Var 0) ≡ App f a → (at (row-of s) p ≡ app f (args (at (row-of s) p))) × (width (args (at (row-of s) p)) ≡ a)
+    at-app f a e =
+        let n = sym (node-is (Var 0)) ∙ e in
+        let h = ap leading (from-app (row-of s) (s .whole) p f a within-row n) in
+        (h ∙ ap (app f) (sym (ap args h)), args-wide ∙ ap arguments n)
+
     pub args-are : (a : ℕ) → width (args (at (row-of s) p)) ≡ a → (args (at (row-of s) p) ≡ first a (from (row-of s) (p + 1))) × (a ≤ width (from (row-of s) (p + 1)))
     args-are a e =
         let n = getD (row-of s) p (Var 0) in
@@ -82,6 +96,12 @@ module _ (s : Subterms) where
 
   pub row-some : 0 < s .len
   row-some = omega (arith, width-from (row-of s) (s .whole) 0, row-length, ap width (from-whole (row-of s) (s .whole)))
+
+past-end : (s : Subterms) (p : ℕ) → s .len ≤ p → from (row-of s) p ≡ nil
+past-end s p h = ap (λ ns. valueOr (row ns) nil) (drop-all p (row-of s) (omega (arith, row-length s)))
+
+pub args-none : (s : Subterms) (p : ℕ) → s .len ≤ p → width (args (at (row-of s) p)) ≡ 0
+args-none s p h = ap (λ ts. width (args (leading ts))) (past-end s p h)
 
 -- the term of the pattern is the subterm at place 0
 pub at-top : (s : Subterms) (p : Pattern) → row-of s ≡ nodes-of p → at (row-of s) 0 ≡ term-of p

@@ -3,7 +3,7 @@ use mathlib.Core.List.{List}
 use Prim.Native.Nat.{ℕ}
 use lib.ListN.{drop}
 use Rattle.std.specs.Options.{valueOr}
-use Rattle.terms.specs.Term.{Term, Terms, var, app, nil, _▹_}
+use Rattle.terms.specs.Term.{Term, Terms, var, nil, _▹_}
 use Rattle.terms.specs.Preorder.{row}
 use Rattle.terms.specs.declared.pattern.Node.{Node}
 use Rattle.terms.specs.declared.pattern.Node.the-variants.{Var, App}
@@ -24,7 +24,3 @@ at ns p = leading (from ns p)
 abbrev pub arguments : Node → ℕ
 arguments (Var x) = 0
 arguments (App f a) = a
-
-abbrev pub args : Term → Terms
-args (var x) = nil
-args (app f ts) = ts

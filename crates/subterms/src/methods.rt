@@ -1,11 +1,12 @@
 ghost use mathlib.Core.Path.{_≡_};
 ghost use Prim.Native.Nat.{ℕ, _+_, _≤_, _<_};
 ghost use lib.ListN.{take, length, getD};
-ghost use Rattle.terms.specs.Term.{cells};
+ghost use Rattle.terms.specs.Term.{width, cells};
 ghost use mathlib.Core.List.{[]};
 ghost use Rattle.std.specs.Orderings.{Decides};
 ghost use Rattle.terms.specs.Preorder.{Whole, preorder};
 ghost use Rattle.terms.specs.Patterns.{nodes-of};
+ghost use Rattle.rewriting.specs.Replace.{args};
 ghost use Rattle.subterms.specs.Places.{at, arguments};
 ghost use Rattle.subterms.specs.Rows.{row-of};
 use super::Subterms;
@@ -40,6 +41,17 @@ impl Subterms {
             &self.nodes[p..self.ends[p]]
         } else {
             &self.nodes[0..0]
+        }
+    }
+
+    // How many arguments the subterm at place p has.
+    pub fn arity(&self, p: usize) -> usize
+        ensures { λ r. ⌜ r ≡ width (args (at (row-of (now (self .entry))) p)) ⌝ }
+    {
+        if p < self.len {
+            arity(self.nodes[p])
+        } else {
+            0
         }
     }
 

@@ -6,7 +6,8 @@ use Rattle.std.proofs.shelf.Tests.{both-ways}
 use Rattle.terms.specs.Term.{Term, Terms, width, _▹_}
 use Rattle.rewriting.specs.Kbo.{Kbo, KboLex}
 use Rattle.rewriting.proofs.KboCases.{skip, unskip, differ, decided, lex-none}
-use Rattle.subterms.specs.Places.{from, at, args}
+use Rattle.rewriting.specs.Replace.{args}
+use Rattle.subterms.specs.Places.{from, at}
 use Rattle.subterms.specs.Rows.{row-of}
 use Rattle.subterms.proofs.Preorders.{first, width-first}
 use Rattle.subterms.proofs.Tables.{args-are, next-arg, some-left, end-past}

@@ -2,7 +2,8 @@ use mathlib.Core.Path.{_≡_}
 use Prim.Native.Nat.{ℕ, _≤_, _<_}
 use Rattle.terms.specs.Term.{width}
 use Rattle.rewriting.specs.Kbo.{KboLex}
-use Rattle.subterms.specs.Places.{from, at, args}
+use Rattle.rewriting.specs.Replace.{args}
+use Rattle.subterms.specs.Places.{from, at}
 use Rattle.subterms.specs.Rows.{row-of}
 use Rattle.subterms.proofs.Preorders.{first}
 use Rattle.kbo.proofs.compare.first_difference.Given as given
