@@ -6,7 +6,7 @@ use native.Mathlib.Omega.{arith}
 use Prim.Native.Nat.{ℕ, suc, _+_, _<_, _≤_}
 use Rattle.terms.specs.Term.{Term, Terms, var, app, nil, _▹_, width}
 use Rattle.rewriting.specs.Replace.{args}
-use Rattle.rewriting.specs.Lpo.{Lpo, LpoSome, LpoAll, LpoLex}
+use Rattle.rewriting.specs.Lpo.{Lpo, LpoSome, LpoAll, LpoLex, HeadsAbove}
 use Rattle.rewriting.proofs.LexAcc.{Ends}
 use Rattle.rewriting.proofs.Lpo.{lpo-ok}
 
@@ -78,12 +78,6 @@ module _ (ss ts us vs : Terms) (u v : Term) (es : ss ≡ u ▹ us) (et : ts ≡ 
   pub decided : width us ≡ width vs → Lpo u v → LpoLex ss ts
   decided e h = rw (es, et) (LpoLex.lex-here h e)
 
--- the heads, and the arguments of equal heads
-abbrev pub HeadsAbove : Term → Term → Type 0
-HeadsAbove (var x) t = ⊥
-HeadsAbove (app f ss) (var y) = ⊥
-HeadsAbove (app f ss) (app g ts) = (g < f) ⊎ ((f ≡ g) × LpoLex ss ts)
-
 pub by-some : (s t : Term) → LpoSome (args s) t → Lpo s t
 by-some (var x) t h = absurd (some-none t h)
 by-some (app f ss) t h = Lpo.by-arg h
@@ -98,3 +92,18 @@ pub lpo-cases : {s t : Term} → Lpo s t → LpoSome (args s) t ⊎ (HeadsAbove 
 lpo-cases (Lpo.by-arg h) = inl h
 lpo-cases (Lpo.by-head l h) = inr (inl l, h)
 lpo-cases (Lpo.by-lex h l) = inr (inr (refl, l), h)
+
+pub not-lpo : (s t : Term) → ¬ (LpoSome (args s) t) → ¬ (HeadsAbove s t × LpoAll s (args t)) → ¬ (Lpo s t)
+not-lpo s t a b h = ⊎-elim a b (lpo-cases h)
+
+lex-irreflexive : (ss : Terms) → ¬ (LpoLex ss ss)
+lex-irreflexive nil h = lex-none h
+lex-irreflexive (s ▹ ss) h = ⊎-elim (λ l. irreflexive s (l .0)) (λ l. lex-irreflexive ss (l .1)) (lex-cases h)
+
+pub heads-apart : (s t : Term) → HeadsAbove s t → ¬ (s ≡ t)
+heads-apart s t h e = by t (subst (λ z. HeadsAbove z t) e h)
+  where
+    by : (t : Term) → ¬ (HeadsAbove t t)
+    by (var x) h = h
+    by (app f ts) (inl l) = omega arith
+    by (app f ts) (inr l) = lex-irreflexive ts (l .1)

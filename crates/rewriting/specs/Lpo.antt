@@ -1,7 +1,8 @@
 -- The lexicographic path order: a symbol's number is its precedence.
 use mathlib.Core.Path.{_≡_}
+use mathlib.Core.Logic.{_⊎_}
 use Prim.Native.Nat.{ℕ, _<_}
-use Rattle.terms.specs.Term.{Term, Terms, app, nil, _▹_, width}
+use Rattle.terms.specs.Term.{Term, Terms, var, app, nil, _▹_, width}
 
 mutual
   pub data Lpo : Term → Term → Type 0 where
@@ -24,3 +25,9 @@ mutual
   pub data LpoLex : Terms → Terms → Type 0 where
     lex-here : {s t : Term} {ss ts : Terms} → Lpo s t → width ss ≡ width ts → LpoLex (s ▹ ss) (t ▹ ts)
     lex-next : {s : Term} {ss ts : Terms} → LpoLex ss ts → LpoLex (s ▹ ss) (s ▹ ts)
+
+-- the heads, and the arguments of equal heads
+abbrev pub HeadsAbove : Term → Term → Type 0
+HeadsAbove (var x) t = ⊥
+HeadsAbove (app f ss) (var y) = ⊥
+HeadsAbove (app f ss) (app g ts) = (g < f) ⊎ ((f ≡ g) × LpoLex ss ts)
