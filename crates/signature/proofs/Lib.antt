@@ -1,1 +1,4 @@
 pub mod Symbols
+mod Cuts
+mod Sounds
+mod Once

@@ -1,6 +1,6 @@
 -- What a symbol's line says.
 use mathlib.Core.Path.{_≡_}
-use mathlib.Core.List.{List, map}
+use mathlib.Core.List.{List, [], map}
 use Prim.Native.Nat.{ℕ, _<_}
 use lib.ListN.{take, length, getD}
 use Rattle.signature.specs.declared.name.Name.{Name}
@@ -16,3 +16,7 @@ names ss = map (λ (s : Symbol). spelled (s .name)) ss
 -- no two of the names are equal
 abbrev pub Apart : List (List ℕ) → Type 0
 Apart ns = (i j : ℕ) (d : List ℕ) → i < j → j < length ns → getD ns i d ≡ getD ns j d → ⊥
+
+-- the name is none of these
+abbrev pub Absent : List ℕ → List (List ℕ) → Type 0
+Absent n ns = (k : ℕ) → k < length ns → getD ns k [] ≡ n → ⊥

@@ -3,7 +3,11 @@ use mathlib.Core.List.{List, map}
 use Prim.Native.Nat.{ℕ}
 use lib.ListN.{take, getD}
 use Rattle.terms.specs.Sig.{Sig}
-use Rattle.signature.specs.Lines.{names}
+use Rattle.std.specs.declared.result.Result.{Result}
+use Rattle.std.specs.declared.result.Result.the-variants.{Ok, Err}
+use Rattle.refusal.specs.declared.Refusal.{Refusal}
+use Rattle.signature.specs.Lines.{names, spelled}
+use Rattle.signature.specs.Texts.{Line}
 use Rattle.signature.specs.declared.symbol.Symbol.{Symbol}
 use Rattle.signature.specs.declared.signature.Signature.{Signature}
 
@@ -27,3 +31,13 @@ sig-of s = record {
 
 abbrev pub names-of : Signature → List (List ℕ)
 names-of s = names (symbols-of s)
+
+abbrev pub line-of : Symbol → Line
+line-of s = record { name = spelled (s .name); arity = s .arity; weight = s .weight }
+
+abbrev pub lines-of : Signature → List Line
+lines-of s = map line-of (symbols-of s)
+
+abbrev pub lines-read : Result Signature Refusal → Result (List Line) Refusal
+lines-read (Ok s) = Ok (lines-of s)
+lines-read (Err e) = Err e

@@ -6,6 +6,7 @@ ghost use Rattle.signature.specs.Lines.{Apart, names};
 use crate::symbol::Symbol;
 
 mod methods;
+mod reading;
 
 #[derive(Clone, Copy)]
 pub struct Signature {

@@ -1,7 +1,10 @@
 // A symbol: its name, its arity from 0 to 4, its weight from 1 to 100.
-ghost use mathlib.Core.Path.{_≡_};
 ghost use Prim.Native.Nat.{_≤_};
 use crate::name::Name;
+
+mod methods;
+
+pub(crate) use methods::position;
 
 #[derive(Clone, Copy)]
 pub struct Symbol {
@@ -11,24 +14,4 @@ pub struct Symbol {
     ghost arity_most: { arity ≤ 4 },
     ghost weight_least: { 1 ≤ weight },
     ghost weight_most: { weight ≤ 100 },
-}
-
-impl Symbol {
-    pub fn name(&self) -> Name
-        ensures { λ r. ⌜ r ≡ now (self .entry) .name ⌝ }
-    {
-        self.name
-    }
-
-    pub fn arity(&self) -> u8
-        ensures { λ r. ⌜ r ≡ now (self .entry) .arity ⌝ }
-    {
-        self.arity
-    }
-
-    pub fn weight(&self) -> u8
-        ensures { λ r. ⌜ r ≡ now (self .entry) .weight ⌝ }
-    {
-        self.weight
-    }
 }

@@ -9,6 +9,7 @@ ghost use Rattle.signature.specs.Signatures.{sig-of, symbols-of, names-of};
 use super::Signature;
 use crate::name::Name;
 use crate::symbol::Symbol;
+use crate::symbol::position;
 
 impl Signature {
     // How many symbols there are.
@@ -58,11 +59,7 @@ impl Signature {
     pub fn find(&self, name: &[u8]) -> Option<u8>
         ensures { λ r. ⌜ BySome r ((f : ℕ) → f < sig-of (now (self .entry)) .symbols → getD (names-of (now (self .entry))) f [] ≡ now (name .entry) → ⊥) (λ f. (f < sig-of (now (self .entry)) .symbols) × (getD (names-of (now (self .entry))) f [] ≡ now (name .entry))) ⌝ }
     {
-        for at in 0..self.count {
-            if self.symbols[at].name().is(name) {
-                return Some(at as u8);
-            }
-        }
-        None
+        let k = position(&self.symbols[..self.count], name)?;
+        Some(k as u8)
     }
 }

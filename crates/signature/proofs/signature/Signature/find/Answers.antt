@@ -1,24 +1,18 @@
-use mathlib.Core.Path.{_≡_, sym, ap, _∙_}
-use mathlib.Core.List.{[]}
-use mathlib.Core.Bool.{false≢true}
-use lib.ListN.{getD}
-use borrow.Author.Count.{below-more}
+use native.Mathlib.Omega.{arith}
+use Rattle.std.proofs.shelf.Lists.{length-map}
 use Rattle.signature.specs.Lines.{spelled}
-use Rattle.signature.specs.Signatures.{names-of}
+use Rattle.signature.specs.Signatures.{symbols-of}
 use Rattle.signature.specs.declared.symbol.Symbol.{Symbol}
-use Rattle.signature.proofs.Symbols.{at-symbol}
+use Rattle.signature.proofs.Symbols.{symbols-count}
 use Rattle.signature.proofs.signature.Signature.find.Needs as need
 
-pub returns-then-is : need.returns-then-is
-returns-then-is c =
+pub returns-in-Break-k : need.returns-in-Break-k
+returns-in-Break-k c =
     let s = c .args .self .now in
-    let at = c .loop-at .at in
-    let e = ap spelled (c .name .ensures) ∙ at-symbol (λ (y : Symbol). spelled (y .name)) s at _ [] (c .loop-at-test .taken) in
-    (c .loop-at-test .taken, sym e ∙ c .is .ensures .0 (c .if-is .taken))
+    let size = length-map (symbols-of s) (λ (y : Symbol). spelled (y .name)) in
+    rw (c .from-residual .ensures) (λ f h. c .in-Break-k .ensures tt f (omega (arith, size, symbols-count s)))
 
-pub loop-at-again : need.loop-at-again
-loop-at-again c =
-    let s = c .args .self .now in
-    let at = c .loop-at .at in
-    let e = ap spelled (c .name .ensures) ∙ at-symbol (λ (y : Symbol). spelled (y .name)) s at _ [] (c .loop-at-test .taken) in
-    below-more _ _ (c .loop-at .inv) (λ h. false≢true (sym (c .if-is .left) ∙ c .is .ensures .1 (e ∙ h)))
+pub returns : need.returns
+returns c =
+    let found = c .in-Continue-k .ensures tt in
+    (omega (arith, found .0, symbols-count (c .args .self .now)), found .1)

@@ -1,0 +1,3 @@
+// The call script: one call to a line.
+pub mod call;
+pub mod text;
