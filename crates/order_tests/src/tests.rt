@@ -11,7 +11,9 @@ use terms::pattern::Node;
 use terms::pattern::Pattern;
 
 static NUMBERS: &[u8] = b"z\t0\t1\ns\t1\t1\na\t2\t1\n";
+
 static RING: &[u8] = b"z\t0\t1\ne\t0\t1\np\t2\t1\nm\t2\t1\ni\t1\t1\n";
+
 static HEAVY: &[u8] = b"z\t0\t3\ng\t1\t2\nf\t1\t5\nh\t1\t5\n";
 
 fn node(signature: &Signature, letter: u8) -> Option<Node> {
@@ -93,4 +95,24 @@ fn deep_terms() -> Result<(), Fail> {
     let s = b"mmmmeemeemmeemeemmmeemeemmeemee";
     let t = b"mmmmzzmzzmmzzmzzmmmzzmzzmmzzmzz";
     check_eq(answers(RING, s, t), Some(*b">>?"))
+}
+
+// Terms of one signature, asked about under another: a symbol too many, and another arity.
+fn foreign_answer(s: &[u8]) -> Option<u8> {
+    let Ok(ring) = Signature::read(RING) else {
+        return None;
+    };
+    let Ok(numbers) = Signature::read(NUMBERS) else {
+        return None;
+    };
+    let s = pattern(&ring, s)?;
+    let t = pattern(&ring, b"X")?;
+    Some(turned(&LexicographicPath, &numbers, &s, &t))
+}
+
+#[test]
+fn foreign_terms() -> Result<(), Fail> {
+    check_eq(foreign_answer(b"pXX"), Some(b'>'))?;
+    check_eq(foreign_answer(b"mXX"), Some(b'?'))?;
+    check_eq(foreign_answer(b"pXe"), Some(b'?'))
 }
