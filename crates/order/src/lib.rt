@@ -8,7 +8,9 @@ ghost use Rattle.rewriting.specs.Order.{Reduces};
 use signature::signature::Signature;
 use terms::pattern::Pattern;
 
+pub mod orient;
 pub mod over;
+pub mod sides;
 
 pub trait ReductionOrder {
     // s is above t: of all terms of the signature, of any size.

@@ -5,3 +5,4 @@ pub mod Kbo
 pub mod Lpo
 pub mod KboCases
 pub mod LpoCases
+pub mod Steps

@@ -3,3 +3,4 @@ pub mod Order
 pub mod Count
 pub mod Kbo
 pub mod Lpo
+pub mod Steps
