@@ -36,7 +36,9 @@ fn pattern() -> Option<Pattern> {
 #[test]
 fn enters_once() -> Result<(), Fail> {
     let signature = Signature::read(b"a\t0\t1\nf\t2\t1\ng\t2\t1\n")?;
-    let pattern = pattern().ok_or("no pattern")?;
+    let Some(pattern) = pattern() else {
+        return check(false);
+    };
     let mut cells = [Cell::Var(9); 8];
     let mut count = Count { len: 1 };
     check_eq(enter(&signature, &pattern, &mut cells, &mut count)?, 4)?;
@@ -72,7 +74,9 @@ fn enters_once() -> Result<(), Fail> {
 #[test]
 fn refuses() -> Result<(), Fail> {
     let signature = Signature::read(b"a\t0\t1\nf\t2\t1\n")?;
-    let pattern = pattern().ok_or("no pattern")?;
+    let Some(pattern) = pattern() else {
+        return check(false);
+    };
     let mut cells = [Cell::Var(9); 3];
     let mut count = Count { len: 1 };
     check(enter(&signature, &pattern, &mut cells, &mut count) == Err(Refusal::BankRules))?;
