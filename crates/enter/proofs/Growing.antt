@@ -81,7 +81,7 @@ pub record Noted (S : Sig) (b : List Cell) (c : Cell) (b′ : List Cell) (i : �
   pub is : getD b′ i (Var 0) ≡ c
   pub new : (j : ℕ) → length b ≤ j → j < length b′ → j ≡ i
 
-appended : (S : Sig) (b : List Cell) (c : Cell) → Rules S b → Fitting S (length b) c → place c b ≡ None → Noted S b c (b ++ c ∷ []) (length b)
+pub appended : (S : Sig) (b : List Cell) (c : Cell) → Rules S b → Fitting S (length b) c → place c b ≡ None → Noted S b c (b ++ c ∷ []) (length b)
 appended S b c rules fit free =
     let size = length-push b c in
     let old : (j : ℕ) → j < length b → getD (b ++ c ∷ []) j (Var 0) ≡ getD b j (Var 0) = λ j l. getD-append-left b (c ∷ []) (Var 0) j l in
@@ -128,11 +128,11 @@ at1 : (i : ℕ) (xs ys : List ℕ) → ((k : ℕ) → getD xs k 0 ≡ getD ys k 
 at1 i xs ys h zero = refl
 at1 i xs ys h (suc k) = h k
 
-means-within : {b : List Cell} {i : ℕ} {t : Term} → Means b i t → i < length b
+pub means-within : {b : List Cell} {i : ℕ} {t : Term} → Means b i t → i < length b
 means-within (is-var l e) = l
 means-within (is-app l e h) = l
 
-same-width : (σ : ℕ → Term) (ts : Terms) → width ts ≡ width (subs σ ts)
+pub same-width : (σ : ℕ → Term) (ts : Terms) → width ts ≡ width (subs σ ts)
 same-width σ nil = refl
 same-width σ (t ▹ ts) = ap suc (same-width σ ts)
 
@@ -166,7 +166,7 @@ pub record GrownAll (S : Sig) (b : List Cell) (ts : Terms) (b′ : List Cell) (i
   pub means : MeansAll b′ is ts
   pub new : (j : ℕ) → length b ≤ j → j < length b′ → (s : Term) × Means b′ j s × Parts s ts
 
-binds-grown : (b more : List Cell) (bindings : List (Option ℕ)) (σ : ℕ → Term) → Binds b bindings σ → Binds (b ++ more) bindings σ
+pub binds-grown : (b more : List Cell) (bindings : List (Option ℕ)) (σ : ℕ → Term) → Binds b bindings σ → Binds (b ++ more) bindings σ
 binds-grown b more bindings σ h = record { cell = λ x i e. grown b more (σ x) (h .cell x i e); free = h .free }
 
 -- a noted variable stands for itself
@@ -180,7 +180,7 @@ entered-var S b x b′ i n = record {
 }
 
 -- a noted application of entered arguments
-entered-app : (S : Sig) (b b₁ b₂ : List Cell) (f a : ℕ) (ts : Terms) (is : List ℕ) (i : ℕ) → a ≡ length is → a ≤ 4
+pub entered-app : (S : Sig) (b b₁ b₂ : List Cell) (f a : ℕ) (ts : Terms) (is : List ℕ) (i : ℕ) → a ≡ length is → a ≤ 4
     → GrownAll S b ts b₁ is → Noted S b₁ (App f a (fill blank 0 is)) b₂ i → Grown S b (app f ts) b₂ i
 entered-app S b b₁ b₂ f a ts is i wide few g n =
     let full = filled is (omega arith) in
@@ -198,7 +198,7 @@ entered-app S b b₁ b₂ f a ts is i wide few g n =
       ];
     }
 
-fitting-app : (S : Sig) (b : List Cell) (f a : ℕ) (ts : Terms) (is : List ℕ) → f < S .symbols → a ≡ S .arity f → a ≤ 4 → a ≡ length is → MeansAll b is ts → Fitting S (length b) (App f a (fill blank 0 is))
+pub fitting-app : (S : Sig) (b : List Cell) (f a : ℕ) (ts : Terms) (is : List ℕ) → f < S .symbols → a ≡ S .arity f → a ≤ 4 → a ≡ length is → MeansAll b is ts → Fitting S (length b) (App f a (fill blank 0 is))
 fitting-app S b f a ts is known arity few wide h =
     let full = filled is (omega arith) in
     record {
@@ -248,7 +248,7 @@ module _ (S : Sig) (m : ℕ) (bindings : List (Option ℕ)) (σ : ℕ → Term) 
         let n = note-law S m (c .0 .0) (App f (width ts) (fill blank 0 (c .0 .1))) b′ i (g .rules) fit (c .2) in
         entered-app S b (c .0 .0) b′ f (width ts) (subs σ ts) (c .0 .1) i wide (modest .0) g n
 
-    enters-law : (ts : Terms) (b b′ : List Cell) (is : List ℕ) → Rules S b → AllOver S ts → AllModest ts → Binds b bindings σ → enters m bindings ts b ≡ Some (b′, is) → GrownAll S b (subs σ ts) b′ is
+    pub enters-law : (ts : Terms) (b b′ : List Cell) (is : List ℕ) → Rules S b → AllOver S ts → AllModest ts → Binds b bindings σ → enters m bindings ts b ≡ Some (b′, is) → GrownAll S b (subs σ ts) b′ is
     enters-law nil b b′ is rules over modest binds e =
         let q : _≡_ {A = List Cell × List ℕ} (b, []) (b′, is) = some-eq e in
         let same : GrownAll S b nil b [] = record { more = []; grows = sym (append-nil b); rules = rules; means = none; new = λ j g l. absurd (outside b j g l) } in

@@ -2,3 +2,4 @@ pub mod Noting
 pub mod Machining
 pub mod Growing
 pub mod Rows
+pub mod Rooms

@@ -1,7 +1,7 @@
 -- What entering answers, and what it leaves in the cells and the count.
 use mathlib.Core.Path.{_≡_}
 use mathlib.Core.Logic.{_⊎_}
-use mathlib.Core.List.{List, []}
+use mathlib.Core.List.{List, [], _++_}
 use Prim.Native.Nat.{ℕ, _<_, _≤_}
 use lib.ListN.{length, take}
 use Rattle.std.specs.declared.option.Option.{Option}
@@ -18,6 +18,7 @@ use Rattle.signature.specs.Signatures.{sig-of}
 use Rattle.signature.specs.declared.signature.Signature.{Signature}
 use Rattle.bank.specs.declared.cell.Cell.{Cell}
 use Rattle.bank.specs.Rules.{Rules, Keeps}
+use Rattle.bank.specs.Means.{Means}
 use Rattle.bank.specs.Checked.{Sized}
 use Rattle.enter.specs.Enter.{enter}
 use Rattle.enter.specs.Grown.{Binds, Grown}
@@ -30,10 +31,13 @@ pub record Instance (p : Pattern) (bindings : List (Option ℕ)) (cells : List C
   pub law : (S : Sig) (σ : ℕ → Term) → Rules S (take n cells) → Over S (term-of p) → Binds (take n cells) bindings σ
       → Grown S (take n cells) (sub σ (term-of p)) (take n′ cells′) v
 
--- a bank that cannot take the instance: its count and its counted cells are as they were
+-- a bank that cannot take the instance: its count and its counted cells are as they were; if it keeps its rules, then
+-- with no more cells than it has it cannot be grown to one in which some cell stands for the instance
 pub record NoRoom (p : Pattern) (bindings : List (Option ℕ)) (cells : List Cell) (n : ℕ) (cells′ : List Cell) : Type 0 where
   pub stays : take n cells′ ≡ take n cells
   pub none : enter (length cells) bindings (term-of p) (take n cells) ≡ None
+  pub law : (S : Sig) (σ : ℕ → Term) → Rules S (take n cells) → Over S (term-of p) → Binds (take n cells) bindings σ
+      → (more : List Cell) (i : ℕ) → length (take n cells ++ more) ≤ length cells → Means (take n cells ++ more) i (sub σ (term-of p)) → ⊥
 
 abbrev pub Laid : Pattern → List (Option ℕ) → List Cell → ℕ → List Cell → ℕ → Result ℕ Refusal → Type 0
 Laid p bindings cells n cells′ n′ (Ok v) = Sized cells × (n ≤ length cells) × Instance p bindings cells n cells′ n′ v

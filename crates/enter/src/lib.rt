@@ -13,6 +13,8 @@ use terms::pattern::Pattern;
 mod known;
 mod machine;
 mod note;
+#[cfg(test)]
+mod tests;
 
 // The cell of the pattern's term, entered into a bank of any content.
 pub fn enter(

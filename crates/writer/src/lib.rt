@@ -19,6 +19,8 @@ use walk::Frame;
 use walk::advance;
 
 mod piece;
+#[cfg(test)]
+mod tests;
 mod walk;
 
 // A shared term can be exponentially long as text: whether it fits is found out by a walk that ends where the buffer would.
