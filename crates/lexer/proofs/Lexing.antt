@@ -120,9 +120,9 @@ moved text place f h e =
     by (b ∷ bs) h l is = rw (← l, ← is) (first-moves b bs)
 
 -- a token found behind separators
-pub found : (text : List ℕ) (at place : ℕ) (kind : Kind) (n : ℕ) (bytes : List ℕ) → tokens-from (drop at text) at ≡ tokens-from (drop place text) place → at ≤ place → place < length text → (first (drop place text) ≡ Piece kind n) × Moves (length text - place) (Piece kind n) → bytes ≡ take (place + n - place) (drop place text) → let t : Lexeme = record { kind = kind; bytes = bytes; place = place } in (tokens-from (drop at text) at ≡ t ∷ tokens-from (drop (end-of t) text) (end-of t)) × (at < end-of t) × (end-of t ≤ length text) × (at ≤ place) × (tokens-from (drop at text) at ≡ tokens-from (drop place text) place)
+pub found : (text : List ℕ) (at place : ℕ) (kind : Kind) (n : ℕ) (bytes : List ℕ) → tokens-from (drop at text) at ≡ tokens-from (drop place text) place → at ≤ place → place < length text → (first (drop place text) ≡ Piece kind n) × Moves (length text - place) (Piece kind n) → bytes ≡ take (place + n - place) (drop place text) → let t : Lexeme = record { kind = kind; bytes = bytes; place = place } in (tokens-from (drop at text) at ≡ t ∷ tokens-from (drop (end-of t) text) (end-of t)) × (at < end-of t) × (end-of t ≤ length text) × (at ≤ place) × (tokens-from (drop at text) at ≡ tokens-from (drop place text) place) × (bytes ≡ take (length bytes) (drop place text))
 found text at place kind n bytes same low within m is =
     let back : place + n - place ≡ n = omega arith in
     let here : bytes ≡ take n (drop place text) = is ∙ ap (λ k. take k (drop place text)) back in
     let size : length bytes ≡ n = ap length here ∙ length-take-le n (drop place text) (omega (arith, length-drop place text, m .1 .1)) in
-    (same ∙ tokens-piece (drop place text) place kind n (m .0) ∙ ap₂ (λ (bs : List ℕ) (ts : List Lexeme). record { kind = kind; bytes = bs; place = place } ∷ ts) (sym here) (ap (λ bs. tokens-from bs (place + n)) (drop-drop n place text) ∙ ap (λ k. tokens-from (drop (place + k) text) (place + k)) (sym size)), omega (arith, size, m .1 .0), omega (arith, size, m .1 .1), low, same)
+    (same ∙ tokens-piece (drop place text) place kind n (m .0) ∙ ap₂ (λ (bs : List ℕ) (ts : List Lexeme). record { kind = kind; bytes = bs; place = place } ∷ ts) (sym here) (ap (λ bs. tokens-from bs (place + n)) (drop-drop n place text) ∙ ap (λ k. tokens-from (drop (place + k) text) (place + k)) (sym size)), omega (arith, size, m .1 .0), omega (arith, size, m .1 .1), low, same, here ∙ ap (λ k. take k (drop place text)) (sym size))

@@ -2,7 +2,7 @@
 use mathlib.Core.Path.{_≡_}
 use mathlib.Core.List.{List, [], _∷_}
 use Prim.Native.Nat.{ℕ, _+_, _≤_, _<_}
-use lib.ListN.{length, drop}
+use lib.ListN.{length, take, drop}
 use Rattle.std.specs.declared.option.Option.{Option}
 use Rattle.std.specs.declared.option.Option.the-variants.{None, Some}
 use Rattle.lexer.specs.Tokens.{Lexeme, tokens-from}
@@ -24,3 +24,4 @@ Next text at (Some t) =
     × (end-of (lexeme-of t) ≤ length text)
     × (at ≤ t .place)
     × (tokens-from (drop at text) at ≡ tokens-from (drop (t .place) text) (t .place))
+    × (t .bytes .now ≡ take (length (t .bytes .now)) (drop (t .place) text))

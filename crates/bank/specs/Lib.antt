@@ -1,0 +1,3 @@
+pub mod Rules
+pub mod Means
+pub mod Checked

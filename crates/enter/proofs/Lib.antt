@@ -1,0 +1,4 @@
+pub mod Noting
+pub mod Machining
+pub mod Growing
+pub mod Rows

@@ -1,0 +1,5 @@
+pub mod Enter
+pub mod Machine
+pub mod Grown
+pub mod Known
+pub mod Outcome

@@ -1,0 +1,9 @@
+pub mod Symbols
+pub mod Uses
+pub mod Scans
+pub mod Numbering
+pub mod Rows
+pub mod Roles
+pub mod Outcomes
+pub mod Stacks
+pub mod Laying
