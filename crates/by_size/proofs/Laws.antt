@@ -1,7 +1,7 @@
 -- The order by size keeps the laws of a reduction order: a cell is a weight of 1.
 use mathlib.Core.Path.{_≡_, refl, ap, ap₂}
-use mathlib.Core.WellFounded.{Acc, InvImage·wf, Subrelation·accessible}
-use Prim.Native.Nat.{ℕ, suc, _+_, _≤_, _<_}
+use mathlib.Core.WellFounded.{InvImage·wf, Subrelation·accessible}
+use Prim.Native.Nat.{ℕ, _+_, _≤_}
 use native.Mathlib.Omega.{arith}
 use lib.WfN.{Nat·lt-wfRel}
 use Rattle.terms.specs.Term.{Term, Terms, var, app, nil, _▹_, sub, cells, cellss}

@@ -24,5 +24,8 @@ pub impl ReductionOrder for BySize as BySizeOrder {
 fn is_larger(s: &Pattern, t: &Pattern) -> bool
     ensures { λ r. ⌜ Decides r (Larger (term-of (now (s .entry))) (term-of (now (t .entry)))) ⌝ }
 {
-    covers(s.nodes(), t.nodes()) && t.len() < s.len()
+    if s.len() <= t.len() {
+        return false;
+    }
+    covers(s.nodes(), t.nodes())
 }

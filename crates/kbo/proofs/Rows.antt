@@ -1,10 +1,10 @@
 -- What a row weighs, and what the term weighs that it is the preorder of.
-use mathlib.Core.Path.{_≡_, refl, sym, ap, ap₂, _∙_}
+use mathlib.Core.Path.{_≡_, refl, ap, ap₂, _∙_}
 use mathlib.Core.List.{List, [], _∷_, _++_}
-use Prim.Native.Nat.{ℕ, suc, _+_, _*_, _≤_}
+use Prim.Native.Nat.{ℕ, _+_, _*_, _≤_}
 use native.Mathlib.Omega.{arith}
 use lib.ListN.{length}
-use Rattle.terms.specs.Term.{Term, Terms, var, app, nil, _▹_, width}
+use Rattle.terms.specs.Term.{Term, Terms, var, app, nil, _▹_}
 use Rattle.terms.specs.Preorder.{preorder, preorders}
 use Rattle.terms.specs.declared.pattern.Node.{Node}
 use Rattle.terms.specs.declared.pattern.Node.the-variants.{Var, App}

@@ -1,22 +1,18 @@
 -- The heads of two terms of equal weights, read off their rows.
-use mathlib.Core.Path.{_≡_, refl, sym, ap, subst, _∙_}
-use mathlib.Core.Logic.{_⊎_, inl, inr}
-use mathlib.Core.Bool.{Bool, true, false, cond, _&&_}
-use Prim.Native.Nat.{ℕ, _≤_, _<_}
-use native.Mathlib.Omega.{arith}
+use mathlib.Core.Path.{_≡_, refl, sym}
+use mathlib.Core.Bool.{_&&_}
+use Prim.Native.Nat.{ℕ}
 use lib.Dec.{ltb, eqb}
 use lib.ListN.{getD}
-use Rattle.std.proofs.shelf.Tests.{ltb-true, ltb-false, eqb-true, eq-eqb, and-parts, and-from, both-ways, cases-bool, cond-true, cond-false, cond-both}
-use Rattle.terms.specs.Term.{Term, Terms, var, app, width}
+use Rattle.std.proofs.shelf.Tests.{ltb-true, ltb-false, eqb-true, eq-eqb, and-parts, and-from, both-ways, cond-both}
+use Rattle.terms.specs.Term.{Term, var, app, width}
 use Rattle.terms.specs.Preorder.{preorder}
-use Rattle.terms.specs.declared.pattern.Node.{Node}
-use Rattle.terms.specs.declared.pattern.Node.the-variants.{Var, App}
+use Rattle.terms.specs.declared.pattern.Node.the-variants.{Var}
 use Rattle.rewriting.specs.Count.{Covers, weigh}
 use Rattle.rewriting.specs.Kbo.{Kbo, KboLex}
 use Rattle.rewriting.proofs.KboCases.{not-var, not-to-var, not-heads, arguments-down, arguments-up}
 use Rattle.rewriting.specs.Replace.{args}
 use Rattle.kbo.specs.Verdicts.{Says, SameHead, by-heads}
-use Rattle.kbo.specs.declared.heads.Verdict.{Verdict}
 use Rattle.kbo.specs.declared.heads.Verdict.the-variants.{Above, NotAbove, ByArguments}
 
 module _ (w : ℕ → ℕ) where

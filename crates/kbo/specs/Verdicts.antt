@@ -3,7 +3,7 @@ use mathlib.Core.Path.{_≡_}
 use mathlib.Core.Bool.{cond, _&&_}
 use Prim.Native.Nat.{ℕ}
 use lib.Dec.{ltb, eqb}
-use Rattle.terms.specs.Term.{Term, Terms, var, app, width}
+use Rattle.terms.specs.Term.{Term, var, app, width}
 use Rattle.terms.specs.declared.pattern.Node.{Node}
 use Rattle.terms.specs.declared.pattern.Node.the-variants.{Var, App}
 use Rattle.rewriting.specs.Count.{Covers, weigh}

@@ -1,10 +1,10 @@
 -- What the heads of two terms say.
-use mathlib.Core.Path.{_≡_, refl, sym, ap, ap₂, subst, _∙_}
-use mathlib.Core.Logic.{_⊎_, inl, inr}
+use mathlib.Core.Path.{_≡_, sym, ap, ap₂, subst}
+use mathlib.Core.Logic.{inl, inr}
 use Prim.Native.Nat.{ℕ, _<_, _≤_}
 use native.Mathlib.Omega.{arith}
 use Rattle.terms.specs.Term.{Term, Terms, var, app, width, var-inj, app-head, app-args, var≢app, app≢var}
-use Rattle.rewriting.specs.Lpo.{Lpo, LpoLex, HeadsAbove}
+use Rattle.rewriting.specs.Lpo.{HeadsAbove}
 use Rattle.rewriting.proofs.LpoCases.{lex-width}
 use Rattle.lpo.specs.Seen.{SaysHeads, SaysLex}
 use Rattle.lpo.specs.declared.sides.Compared.{Compared}

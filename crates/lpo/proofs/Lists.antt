@@ -1,5 +1,5 @@
 -- Two lists of arguments, and what is left of them behind equal first ones.
-use mathlib.Core.Path.{_≡_, refl, sym, ap, ap₂, _∙_}
+use mathlib.Core.Path.{_≡_, sym, ap, ap₂, _∙_}
 use Rattle.terms.specs.Term.{Term, Terms, _▹_, width, cons-tail, cons-head}
 use Rattle.rewriting.specs.Lpo.{Lpo, LpoLex}
 use Rattle.rewriting.proofs.LpoCases.{skip, unskip, differ, decided}

@@ -3,7 +3,6 @@ ghost use mathlib.Core.WellFounded.{Acc};
 ghost use Rattle.terms.specs.Term.{Term};
 ghost use Rattle.terms.specs.Patterns.{term-of};
 ghost use Rattle.signature.specs.Signatures.{sig-of};
-ghost use Rattle.signature.specs.declared.signature.Signature.{Signature};
 ghost use Rattle.rewriting.specs.Steps.{Rewrites};
 ghost use Rattle.order.specs.Sides.{Turned};
 use crate::ReductionOrder;

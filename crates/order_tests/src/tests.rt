@@ -5,6 +5,8 @@ use kbo::KnuthBendixOrder;
 use lpo::LexicographicPath;
 use lpo::LexicographicPathOrder;
 use order::ReductionOrder;
+use order::orient::orient;
+use order::sides::Side;
 use signature::signature::Signature;
 use std::test::*;
 use terms::pattern::Node;
@@ -40,12 +42,10 @@ fn pattern(signature: &Signature, text: &[u8]) -> Option<Pattern> {
 
 // '>' where s is above t, '<' where t is above s, '?' where neither is.
 fn turned<O: ReductionOrder>(order: &O, signature: &Signature, s: &Pattern, t: &Pattern) -> u8 {
-    if order.is_above(signature, s, t) {
-        b'>'
-    } else if order.is_above(signature, t, s) {
-        b'<'
-    } else {
-        b'?'
+    match orient(order, signature, s, t) {
+        Some(Side::Left) => b'>',
+        Some(Side::Right) => b'<',
+        None => b'?',
     }
 }
 

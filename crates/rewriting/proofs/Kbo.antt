@@ -1,17 +1,15 @@
 -- The Knuth-Bendix order is a reduction order.
-use mathlib.Core.Path.{_≡_, refl, sym, _∙_, ap, ap₂, subst}
+use mathlib.Core.Path.{_≡_, refl, sym, _∙_}
 use mathlib.Core.WellFounded.{Acc, Acc·intro}
 use native.Mathlib.Omega.{arith}
 use native.Mathlib.Decide.{decLt}
-use Prim.Native.Nat.{ℕ, zero, suc, _+_, _<_, _≤_}
-use Rattle.terms.specs.Term.{Term, Terms, var, app, nil, _▹_, width, sub, subs, Occ}
-use Rattle.terms.specs.Sig.{Sig}
+use Prim.Native.Nat.{ℕ, _+_, _<_, _≤_}
+use Rattle.terms.specs.Term.{Term, Terms, var, app, nil, _▹_, sub, subs}
 use Rattle.rewriting.specs.Replace.{Arg, first, later}
-use Rattle.rewriting.specs.Order.{Reduces, Within}
-use Rattle.rewriting.specs.Count.{count, counts, Covers, weigh, weighs}
+use Rattle.rewriting.specs.Count.{Covers, weigh, weighs}
 use Rattle.rewriting.specs.Kbo.{Kbo, KboLex}
 use Rattle.rewriting.proofs.Over.{width-subs, Lawful}
-use Rattle.rewriting.proofs.Count.{covers-stable, arg-counts, arg-weighs, occ-count, count-occ, covers-occ, heavier}
+use Rattle.rewriting.proofs.Count.{covers-stable, arg-counts, arg-weighs, covers-occ, heavier}
 use Rattle.rewriting.proofs.LexAcc.{nat-acc, Lex, Ends, AllEnd, Down, lex-acc}
 
 module _ (w : ℕ → ℕ) (pos : (f : ℕ) → 1 ≤ w f) where

@@ -1,10 +1,10 @@
 -- When two terms are related by the Knuth-Bendix order: case by case, both ways.
-use mathlib.Core.Path.{_≡_, refl, sym, _∙_, ap, subst}
+use mathlib.Core.Path.{_≡_, refl, ap, subst}
 use mathlib.Core.Logic.{_⊎_, inl, inr, ⊎-elim}
 use native.Mathlib.Omega.{arith}
-use Prim.Native.Nat.{ℕ, suc, _+_, _<_, _≤_}
+use Prim.Native.Nat.{ℕ, suc, _<_, _≤_}
 use Rattle.terms.specs.Term.{Term, Terms, var, app, nil, _▹_, width}
-use Rattle.rewriting.specs.Count.{Covers, weigh, weighs}
+use Rattle.rewriting.specs.Count.{Covers, weigh}
 use Rattle.rewriting.specs.Kbo.{Kbo, KboLex}
 
 module _ (w : ℕ → ℕ) where

@@ -1,9 +1,9 @@
 -- Lexicographic descent ends where the descents of the parts do.
-use mathlib.Core.Path.{_≡_, refl, sym, _∙_, ap, ap₂, subst}
+use mathlib.Core.Path.{_≡_, refl, sym, _∙_, ap}
 use mathlib.Core.WellFounded.{Acc, Acc·intro}
 use native.Mathlib.Omega.{arith}
-use Prim.Native.Nat.{ℕ, zero, suc, _<_, _≤_}
-use Rattle.terms.specs.Term.{Term, Terms, var, app, nil, _▹_, width}
+use Prim.Native.Nat.{ℕ, zero, suc, _<_}
+use Rattle.terms.specs.Term.{Term, Terms, nil, _▹_, width}
 
 below-acc : (n m : ℕ) → m < n → Acc _<_ m
 below-acc zero m h = let z : ⊥ = omega arith in absurd z

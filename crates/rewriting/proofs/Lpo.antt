@@ -1,10 +1,9 @@
 -- The lexicographic path order is a reduction order.
-use mathlib.Core.Path.{_≡_, refl, sym, _∙_, ap, ap₂, subst}
-use mathlib.Core.Logic.{_⊎_, inl, inr}
+use mathlib.Core.Path.{refl, sym, _∙_}
+use mathlib.Core.Logic.{inl, inr}
 use mathlib.Core.WellFounded.{Acc, Acc·intro, Acc·inv}
-use native.Mathlib.Omega.{arith}
-use Prim.Native.Nat.{ℕ, zero, suc, _<_, _≤_}
-use Rattle.terms.specs.Term.{Term, Terms, var, app, nil, _▹_, width, sub, subs, Occ, Occs}
+use Prim.Native.Nat.{ℕ, _<_}
+use Rattle.terms.specs.Term.{Term, Terms, var, app, nil, _▹_, sub, subs, Occ, Occs}
 use Rattle.rewriting.specs.Replace.{Arg, first, later}
 use Rattle.rewriting.specs.Lpo.{Lpo, LpoSome, LpoAll, LpoLex}
 use Rattle.rewriting.proofs.Over.{width-subs, Lawful}

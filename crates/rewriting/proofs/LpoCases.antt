@@ -1,9 +1,9 @@
 -- When two terms are related by the lexicographic path order: case by case, both ways.
-use mathlib.Core.Path.{_≡_, refl, sym, _∙_, ap, subst}
+use mathlib.Core.Path.{_≡_, refl, ap, subst}
 use mathlib.Core.Logic.{_⊎_, inl, inr, ⊎-elim}
-use mathlib.Core.WellFounded.{Acc, Acc·intro}
+use mathlib.Core.WellFounded.{Acc·intro}
 use native.Mathlib.Omega.{arith}
-use Prim.Native.Nat.{ℕ, suc, _+_, _<_, _≤_}
+use Prim.Native.Nat.{suc}
 use Rattle.terms.specs.Term.{Term, Terms, var, app, nil, _▹_, width}
 use Rattle.rewriting.specs.Replace.{args}
 use Rattle.rewriting.specs.Lpo.{Lpo, LpoSome, LpoAll, LpoLex, HeadsAbove}

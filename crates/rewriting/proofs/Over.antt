@@ -3,7 +3,7 @@ use mathlib.Core.Path.{_≡_, refl, ap}
 use mathlib.Core.WellFounded.{Acc, Subrelation·accessible}
 use Prim.Native.Nat.{ℕ, suc}
 use Rattle.terms.specs.Term.{Term, Terms, app, nil, _▹_, width, sub, subs, Occ}
-use Rattle.terms.specs.Sig.{Sig, Over}
+use Rattle.terms.specs.Sig.{Sig}
 use Rattle.rewriting.specs.Replace.{Arg}
 use Rattle.rewriting.specs.Order.{Reduces, Within}
 

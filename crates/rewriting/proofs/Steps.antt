@@ -1,6 +1,6 @@
 -- Rewriting by rules from higher to lower ends.
 use mathlib.Core.Path.{_≡_, refl, sym, ap, subst, _∙_}
-use mathlib.Core.Logic.{_⊎_, inl, inr}
+use mathlib.Core.Logic.{inl, inr}
 use mathlib.Core.WellFounded.{Acc, Acc·intro, Subrelation·accessible}
 use Prim.Native.Nat.{ℕ, suc}
 use Rattle.terms.specs.Term.{Term, Terms, var, app, nil, _▹_, width, sub, subs, Occ, Occs}

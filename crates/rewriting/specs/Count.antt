@@ -1,5 +1,4 @@
 -- How often a variable occurs, and what a term weighs.
-use mathlib.Core.Path.{_≡_}
 use native.Mathlib.Decide.{ℕ-discrete}
 use Prim.Native.Nat.{ℕ, _+_, _≤_}
 use Rattle.terms.specs.Term.{Term, Terms, var, app, nil, _▹_}

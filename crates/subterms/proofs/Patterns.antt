@@ -1,11 +1,11 @@
 -- A pattern's row, and the table of its subterms.
-use mathlib.Core.Path.{_≡_, refl, sym, ap, _∙_}
-use mathlib.Core.List.{List, _++_, append-nil}
-use Prim.Native.Nat.{ℕ, _≤_, _<_}
+use mathlib.Core.Path.{_≡_, sym, ap, _∙_}
+use mathlib.Core.List.{append-nil}
+use Prim.Native.Nat.{_≤_}
 use native.Mathlib.Omega.{arith}
-use lib.ListN.{length, take, getD}
+use lib.ListN.{length}
 use Rattle.std.proofs.shelf.Lists.{length-take-le}
-use Rattle.terms.specs.Term.{Term, nil, _▹_, cells}
+use Rattle.terms.specs.Term.{cells}
 use Rattle.terms.specs.Preorder.{preorder, preorders}
 use Rattle.terms.specs.Patterns.{nodes-of, term-of}
 use Rattle.terms.specs.declared.pattern.Pattern.{Pattern}

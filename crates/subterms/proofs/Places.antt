@@ -4,16 +4,15 @@ use mathlib.Core.List.{List, [], _∷_, _++_}
 use Prim.Native.Nat.{ℕ, zero, suc, _+_, _-_, _≤_, _<_}
 use native.Mathlib.Omega.{arith}
 use lib.ListN.{length, drop, take, getD}
-use Rattle.std.proofs.shelf.Lists.{length-append, length-drop, drop-more, drop-drop, drop-at, drop-all, take-at}
+use Rattle.std.proofs.shelf.Lists.{length-append, length-drop, drop-more, drop-drop, drop-at, take-at}
 use Rattle.std.specs.Options.{valueOr}
-use Rattle.std.specs.declared.option.Option.{Option}
-use Rattle.std.specs.declared.option.Option.the-variants.{None, Some}
+use Rattle.std.specs.declared.option.Option.the-variants.{Some}
 use Rattle.terms.specs.Term.{Term, Terms, var, app, nil, _▹_, width, cells}
 use Rattle.terms.specs.Preorder.{in-front, row, decode, Whole, preorder, preorders}
 use Rattle.terms.specs.declared.pattern.Node.{Node}
 use Rattle.terms.specs.declared.pattern.Node.the-variants.{Var, App}
 use Rattle.subterms.specs.Places.{from, at, leading, arguments}
-use Rattle.subterms.proofs.Preorders.{first, rest, rest-cons, rest-rest, width-first, width-rest, Behind, behind, read-var, read-app, read-wide, row-is, row-of-preorders, length-preorder, cells-some, width-cells, whole-row}
+use Rattle.subterms.proofs.Preorders.{first, rest, rest-cons, rest-rest, width-rest, behind, read-var, read-app, read-wide, row-is, row-of-preorders, length-preorder, width-cells, whole-row}
 
 reads-later : (p : ℕ) (ns : List Node) (ts : Terms) → row ns ≡ Some ts → (us : Terms) × (row (drop p ns) ≡ Some us)
 reads-later zero ns ts e = (ts, e)

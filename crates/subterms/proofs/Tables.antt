@@ -1,15 +1,13 @@
 -- Reading a table of subterms.
-use mathlib.Core.Path.{_≡_, refl, sym, ap, ap₂, _∙_}
-use mathlib.Core.Bool.{Bool}
-use mathlib.Core.List.{List, append-nil}
+use mathlib.Core.Path.{_≡_, refl, sym, ap, _∙_}
 use Prim.Native.Nat.{ℕ, _+_, _-_, _≤_, _<_}
 use native.Mathlib.Omega.{arith}
 use lib.ListN.{length, take, drop, getD}
 use Rattle.std.specs.Options.{valueOr}
 use Rattle.std.specs.declared.option.Option.the-variants.{Some}
 use Rattle.std.proofs.shelf.Lists.{length-take-le, take-take, drop-take, drop-all, getD-take}
-use Rattle.terms.specs.Term.{Term, Terms, var, app, _▹_, nil, width, cells}
-use Rattle.terms.specs.Preorder.{row, decode, preorder, preorders}
+use Rattle.terms.specs.Term.{Term, var, app, _▹_, nil, width, cells}
+use Rattle.terms.specs.Preorder.{row, decode, preorder}
 use Rattle.terms.specs.Patterns.{nodes-of, term-of}
 use Rattle.terms.specs.declared.pattern.Node.{Node}
 use Rattle.terms.specs.declared.pattern.Node.the-variants.{Var, App}
@@ -19,7 +17,7 @@ use Rattle.rewriting.specs.Replace.{args}
 use Rattle.subterms.specs.Places.{from, at, leading, arguments}
 use Rattle.subterms.specs.Rows.{row-of}
 use Rattle.subterms.specs.declared.Subterms.{Subterms}
-use Rattle.subterms.proofs.Preorders.{first, rest, first-cons, width-first, cells-some}
+use Rattle.subterms.proofs.Preorders.{first, first-cons, width-first, cells-some}
 use Rattle.subterms.proofs.Places.{from-next, from-whole, from-var, from-app, args-there, width-from, end-within, slice-is}
 
 some-inj : {x y : Term} → Some x ≡ Some y → x ≡ y

@@ -1,6 +1,6 @@
 // All pairs of subterms, the later ones first: an argument stands behind its head.
 ghost use mathlib.Core.Path.{_≡_};
-ghost use Prim.Native.Nat.{ℕ, _+_, _*_, _≤_, _<_};
+ghost use Prim.Native.Nat.{_+_, _*_, _<_};
 ghost use lib.ListN.{length};
 ghost use Rattle.std.specs.Orderings.{Decides};
 ghost use Rattle.rewriting.specs.Lpo.{Lpo};

@@ -1,11 +1,10 @@
 // One pair of subterms, from the pairs of their arguments.
 ghost use mathlib.Core.Path.{_≡_};
-ghost use Prim.Native.Nat.{ℕ, _+_, _*_, _≤_, _<_};
-ghost use lib.ListN.{length};
+ghost use Prim.Native.Nat.{_+_, _*_, _<_};
 ghost use Rattle.std.specs.Orderings.{Decides};
 ghost use Rattle.terms.specs.Term.{width};
 ghost use Rattle.rewriting.specs.Replace.{args};
-ghost use Rattle.rewriting.specs.Lpo.{Lpo, LpoSome, LpoAll};
+ghost use Rattle.rewriting.specs.Lpo.{LpoSome, LpoAll};
 ghost use Rattle.subterms.specs.Places.{at};
 ghost use Rattle.lpo.specs.Seen.{Says, SaysLex, SaysHeads, Known, Ready, up, low};
 use super::Compared;

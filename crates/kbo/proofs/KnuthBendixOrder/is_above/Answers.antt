@@ -1,6 +1,4 @@
-use mathlib.Core.Path.{_≡_, sym}
 use Rattle.signature.specs.Signatures.{sig-of}
-use Rattle.rewriting.specs.Kbo.{Kbo}
 use Rattle.subterms.proofs.Tables.{at-top}
 use Rattle.kbo.proofs.KnuthBendixOrder.is_above.Needs as need
 

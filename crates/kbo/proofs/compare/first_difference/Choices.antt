@@ -1,4 +1,3 @@
-use mathlib.Core.Path.{_≡_}
 use Prim.Native.Nat.{ℕ, _≤_, _<_}
 use Rattle.terms.specs.Term.{width}
 use Rattle.rewriting.specs.Kbo.{KboLex}

@@ -1,5 +1,4 @@
-use mathlib.Core.Path.{_≡_, refl, sym, ap, subst, _∙_}
-use mathlib.Core.Bool.{true, false}
+use mathlib.Core.Path.{ap, _∙_}
 use native.Mathlib.Omega.{arith}
 use Prim.Native.Nat.{ℕ, _<_, _≤_}
 use lib.ListN.{length}
@@ -10,9 +9,9 @@ use Rattle.subterms.specs.Places.{at}
 use Rattle.subterms.specs.Rows.{row-of}
 use Rattle.subterms.specs.declared.Subterms.{Subterms}
 use Rattle.subterms.proofs.Preorders.{length-preorder, cells-some}
-use Rattle.subterms.proofs.Tables.{end-is, end-most, row-some}
+use Rattle.subterms.proofs.Tables.{end-is, end-most}
 use Rattle.kbo.specs.Verdicts.{Says}
-use Rattle.kbo.specs.declared.heads.Verdict.the-variants.{Above, NotAbove, ByArguments}
+use Rattle.kbo.specs.declared.heads.Verdict.the-variants.{ByArguments}
 use Rattle.kbo.proofs.Verdicts.{args-widths, args-down, args-up}
 use Rattle.kbo.proofs.compare.is_above.Needs as need
 use Rattle.kbo.proofs.compare.is_above.Needs.{In-ByArguments}

@@ -1,10 +1,7 @@
-use mathlib.Core.Path.{_≡_, refl, sym, ap, ap₂, subst, _∙_}
-use mathlib.Core.Bool.{Bool, true, false}
+use mathlib.Core.Path.{_≡_, sym, ap, ap₂, subst, _∙_}
 use mathlib.Core.List.{List}
 use native.Mathlib.Omega.{arith}
-use Prim.Native.Nat.{ℕ, _<_, _≤_}
 use lib.ListN.{getD}
-use Rattle.std.specs.Orderings.{Decides}
 use Rattle.std.proofs.shelf.Tests.{both-ways}
 use Rattle.terms.specs.Term.{Term}
 use Rattle.terms.specs.Preorder.{preorder}
@@ -12,7 +9,7 @@ use Rattle.terms.specs.declared.pattern.Node.{Node}
 use Rattle.terms.specs.declared.pattern.Node.the-variants.{Var}
 use Rattle.signature.specs.Signatures.{sig-of}
 use Rattle.signature.proofs.Symbols.{weight-least}
-use Rattle.rewriting.specs.Count.{Covers, weigh}
+use Rattle.rewriting.specs.Count.{weigh}
 use Rattle.rewriting.specs.Kbo.{Kbo}
 use Rattle.rewriting.proofs.Kbo.{kbo-covers, kbo-weigh}
 use Rattle.subterms.proofs.Counting.{covers-preorder}
@@ -22,7 +19,7 @@ use Rattle.kbo.specs.declared.heads.Verdict.{Verdict}
 use Rattle.kbo.proofs.Rows.{weight-preorder}
 use Rattle.kbo.proofs.Verdicts.{heads-say}
 use Rattle.kbo.proofs.heads.judge.Needs as need
-use Rattle.kbo.proofs.heads.judge.Needs.{After-covers, After-weight-lower}
+use Rattle.kbo.proofs.heads.judge.Needs.{After-weight-lower}
 
 pub returns-then-not-covers : need.returns-then-not-covers
 returns-then-not-covers c u v eu ev h =

@@ -1,12 +1,12 @@
-use mathlib.Core.Path.{_≡_, sym, ap, _∙_}
-use Prim.Native.Nat.{ℕ, _+_, _<_, _≤_}
+use mathlib.Core.Path.{_≡_}
+use Prim.Native.Nat.{_+_}
 use native.Mathlib.Omega.{arith}
-use lib.ListN.{length, drop, getD}
+use lib.ListN.{drop}
 use Rattle.std.proofs.shelf.Lists.{at-drop-more, at-drop-all}
 use Rattle.terms.specs.declared.pattern.Node.the-variants.{Var}
 use Rattle.signature.specs.Signatures.{sig-of}
 use Rattle.signature.proofs.Symbols.{weight-most}
-use Rattle.kbo.specs.Weights.{node-weight, row-weight}
+use Rattle.kbo.specs.Weights.{row-weight}
 use Rattle.kbo.proofs.Rows.{row-most}
 use Rattle.kbo.proofs.weights.weight.Needs as need
 use Rattle.kbo.proofs.weights.weight.Needs.{After-weight-of-sum}

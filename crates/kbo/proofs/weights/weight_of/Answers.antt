@@ -1,7 +1,6 @@
-use mathlib.Core.Path.{_≡_, sym, ap, _∙_}
+use mathlib.Core.Path.{sym, ap, _∙_}
 use native.Mathlib.Omega.{arith}
 use Rattle.std.proofs.shelf.Lists.{getD-past, length-map}
-use Rattle.terms.specs.declared.pattern.Node.{Node}
 use Rattle.signature.specs.Signatures.{sig-of, symbols-of, weights}
 use Rattle.signature.proofs.Symbols.{symbols-count}
 use Rattle.signature.specs.declared.symbol.Symbol.{Symbol}

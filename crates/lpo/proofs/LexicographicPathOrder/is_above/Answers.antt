@@ -1,4 +1,3 @@
-use mathlib.Core.Path.{_≡_, sym}
 use Rattle.subterms.proofs.Tables.{at-top}
 use Rattle.lpo.proofs.LexicographicPathOrder.is_above.Needs as need
 

@@ -1,10 +1,7 @@
-use mathlib.Core.Path.{_≡_, refl, sym, ap, _∙_}
-use mathlib.Core.Bool.{Bool, true, false, _&&_}
-use Prim.Native.Nat.{_+_, _<_, _≤_}
+use mathlib.Core.Path.{sym, ap, _∙_}
+use mathlib.Core.Bool.{true, false}
 use native.Mathlib.Omega.{arith}
-use lib.ListN.{length, drop, getD}
 use Rattle.std.proofs.shelf.Lists.{at-drop-more, at-drop-all}
-use Rattle.std.proofs.shelf.Tests.{and-left}
 use Rattle.terms.specs.declared.pattern.Node.the-variants.{Var}
 use Rattle.signature.specs.Signatures.{sig-of}
 use Rattle.subterms.specs.Variables.{every}

@@ -1,5 +1,4 @@
-use mathlib.Core.Path.{_≡_, sym, ap, _∙_}
-use native.Mathlib.Omega.{arith}
+use mathlib.Core.Path.{sym, ap, _∙_}
 use Rattle.subterms.specs.Places.{arguments}
 use Rattle.terms.specs.declared.pattern.Node.the-variants.{Var}
 use Rattle.subterms.proofs.Tables.{args-wide, args-none, node-is}

@@ -4,9 +4,8 @@ use mathlib.Core.List.{List, _++_, _∷_, []}
 use Prim.Native.Nat.{ℕ, _+_, _<_, _≤_}
 use native.Mathlib.Omega.{arith}
 use borrow.Author.Count.{below-more}
-use lib.ListN.{length, take, getD, set}
+use lib.ListN.{length, take, getD}
 use Rattle.std.proofs.shelf.Lists.{take-more-set, take-more, take-all, length-set, getD-set-same, getD-set-other}
-use Rattle.terms.specs.Term.{cells}
 use Rattle.terms.specs.Preorder.{Whole}
 use Rattle.terms.specs.declared.pattern.Node.{Node}
 use Rattle.terms.specs.declared.pattern.Node.the-variants.{Var}

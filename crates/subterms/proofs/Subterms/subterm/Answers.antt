@@ -1,5 +1,5 @@
 use native.Mathlib.Omega.{arith}
-use Rattle.subterms.proofs.Tables.{end-past, end-most, part-is}
+use Rattle.subterms.proofs.Tables.{end-most, part-is}
 use Rattle.subterms.proofs.Subterms.subterm.Needs as need
 
 pub part-result-end : need.part-result-end

@@ -1,8 +1,5 @@
-use mathlib.Core.Path.{_≡_, refl, sym, ap, ap₂, _∙_}
-use mathlib.Core.List.{_++_, _∷_, []}
-use Prim.Native.Nat.{ℕ, _+_, _≤_, _<_}
+use mathlib.Core.Path.{refl, sym, _∙_}
 use native.Mathlib.Omega.{arith}
-use lib.ListN.{length, take, getD}
 use Rattle.std.proofs.shelf.Lists.{take-more-same, take-all}
 use Rattle.terms.specs.declared.pattern.Node.the-variants.{Var}
 use Rattle.subterms.proofs.methods.are_equal.Needs as need

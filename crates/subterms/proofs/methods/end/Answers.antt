@@ -1,10 +1,9 @@
 use mathlib.Core.Path.{_≡_, sym, ap, _∙_}
-use Prim.Native.Nat.{ℕ, suc, _+_, _-_, _≤_, _<_, _^_}
+use Prim.Native.Nat.{ℕ, _+_, _-_, _≤_, _<_}
 use native.Mathlib.Omega.{arith}
-use lib.ListN.{length, getD}
-use Rattle.terms.specs.Term.{Terms, width, _▹_, cells}
-use Rattle.terms.specs.declared.pattern.Node.the-variants.{Var}
-use Rattle.subterms.specs.Places.{from, at, arguments}
+use lib.ListN.{length}
+use Rattle.terms.specs.Term.{Terms, width, _▹_}
+use Rattle.subterms.specs.Places.{from, at}
 use Rattle.subterms.proofs.Preorders.{rest}
 use Rattle.subterms.proofs.Places.{from-next, width-from, walk-rest, walk-width, ends-here}
 use Rattle.subterms.proofs.methods.end.Needs as need

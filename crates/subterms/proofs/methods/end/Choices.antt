@@ -1,6 +1,5 @@
 use mathlib.Core.Path.{_≡_}
-use mathlib.Core.Logic.{_⊎_}
-use Prim.Native.Nat.{_-_, _+_, _≤_, _<_}
+use Prim.Native.Nat.{_-_, _≤_}
 use lib.ListN.{length}
 use Rattle.terms.specs.Term.{width, _▹_}
 use Rattle.subterms.specs.Places.{from, at}

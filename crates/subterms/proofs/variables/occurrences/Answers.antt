@@ -1,10 +1,10 @@
-use mathlib.Core.Path.{_≡_, sym, ap, _∙_}
-use Prim.Native.Nat.{ℕ, _+_, _<_, _≤_}
+use mathlib.Core.Path.{_≡_}
+use Prim.Native.Nat.{_+_}
 use native.Mathlib.Omega.{arith}
-use lib.ListN.{length, drop, getD}
+use lib.ListN.{drop}
 use Rattle.std.proofs.shelf.Lists.{at-drop-more, at-drop-all}
 use Rattle.terms.specs.declared.pattern.Node.the-variants.{Var}
-use Rattle.subterms.specs.Variables.{occurs-in, occurring}
+use Rattle.subterms.specs.Variables.{occurring}
 use Rattle.subterms.proofs.Counting.{occurring-most}
 use Rattle.subterms.proofs.variables.occurrences.Needs as need
 use Rattle.subterms.proofs.variables.occurrences.Needs.{After-one-if-n}

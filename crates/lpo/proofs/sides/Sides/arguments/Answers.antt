@@ -1,14 +1,12 @@
-use mathlib.Core.Path.{_≡_, refl, sym, ap, ap₂, subst, _∙_}
+use mathlib.Core.Path.{_≡_, refl, sym, subst, _∙_}
 use native.Mathlib.Omega.{arith}
-use Prim.Native.Nat.{ℕ, _+_, _*_, _-_, _<_, _≤_}
-use Rattle.terms.specs.Term.{width}
-use Rattle.rewriting.specs.Lpo.{LpoLex}
+use Prim.Native.Nat.{ℕ, _-_}
 use Rattle.rewriting.specs.Replace.{args}
-use Rattle.subterms.specs.Places.{from, at}
+use Rattle.subterms.specs.Places.{from}
 use Rattle.subterms.proofs.Preorders.{first, width-first}
 use Rattle.subterms.proofs.Tables.{args-are, next-arg, some-left, end-past}
 use Rattle.lpo.specs.Seen.{up, low}
-use Rattle.lpo.proofs.Lists.{Left, left-all, left-next, left-above, left-not}
+use Rattle.lpo.proofs.Lists.{left-all, left-next, left-above, left-not}
 use Rattle.lpo.proofs.Reading.{known}
 use Rattle.lpo.proofs.sides.Sides.arguments.Needs as need
 

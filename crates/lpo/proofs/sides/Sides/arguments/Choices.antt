@@ -1,8 +1,6 @@
 use Prim.Native.Nat.{_≤_, _<_}
-use mathlib.Core.Path.{_≡_}
 use Rattle.terms.specs.Term.{width}
 use Rattle.rewriting.specs.Replace.{args}
-use Rattle.rewriting.specs.Lpo.{LpoLex}
 use Rattle.subterms.specs.Places.{from, at}
 use Rattle.subterms.proofs.Preorders.{first}
 use Rattle.lpo.specs.Seen.{up, low}

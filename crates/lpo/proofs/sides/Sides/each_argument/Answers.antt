@@ -1,7 +1,6 @@
-use mathlib.Core.Path.{_≡_, refl, sym, ap, subst, _∙_}
-use mathlib.Core.Bool.{true, false}
+use mathlib.Core.Path.{_≡_, refl, sym, subst}
 use native.Mathlib.Omega.{arith}
-use Prim.Native.Nat.{ℕ, _+_, _*_, _-_, _<_, _≤_}
+use Prim.Native.Nat.{ℕ, _-_}
 use Rattle.std.proofs.shelf.Tests.{false≢true}
 use Rattle.rewriting.specs.Lpo.{Lpo, LpoAll}
 use Rattle.rewriting.proofs.LpoCases.{irreflexive, all-more, all-has, all-rest}

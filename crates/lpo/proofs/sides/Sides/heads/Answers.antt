@@ -1,5 +1,4 @@
-use mathlib.Core.Path.{_≡_, sym, ap, _∙_}
-use native.Mathlib.Omega.{arith}
+use mathlib.Core.Path.{sym, ap, _∙_}
 use Rattle.terms.specs.Term.{var}
 use Rattle.subterms.proofs.Tables.{at-var, at-app}
 use Rattle.lpo.proofs.Heads.{vars-apart, var-below, var-above, higher, same-heads, heads-differ}

@@ -1,4 +1,4 @@
-use mathlib.Core.Path.{_≡_, sym, subst}
+use mathlib.Core.Path.{subst}
 use Prim.Native.Nat.{_+_, _*_, _<_}
 use lib.ListN.{length}
 use native.Mathlib.Omega.{arith}

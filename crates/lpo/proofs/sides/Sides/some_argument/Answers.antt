@@ -1,9 +1,7 @@
-use mathlib.Core.Path.{_≡_, refl, sym, ap, subst, _∙_}
-use mathlib.Core.Bool.{true, false}
+use mathlib.Core.Path.{_≡_, refl, sym, subst}
 use native.Mathlib.Omega.{arith}
-use Prim.Native.Nat.{ℕ, _+_, _*_, _-_, _<_, _≤_}
+use Prim.Native.Nat.{ℕ, _-_}
 use Rattle.std.proofs.shelf.Tests.{false≢true}
-use Rattle.terms.specs.Term.{Terms}
 use Rattle.rewriting.specs.Lpo.{LpoSome}
 use Rattle.rewriting.proofs.LpoCases.{some-none, some-equal, some-above, some-later, some-skip}
 use Rattle.subterms.specs.Places.{from, at}
