@@ -5,7 +5,7 @@ ghost use Rattle.signature.specs.Signatures.{sig-of};
 ghost use Rattle.rewriting.specs.Order.{Within};
 ghost use Rattle.by_size.specs.Size.{Larger};
 use order::ReductionOrder;
-use order::over::are_over;
+use over::are_over;
 use signature::signature::Signature;
 use subterms::variables::covers;
 use terms::pattern::Pattern;

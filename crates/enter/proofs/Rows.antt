@@ -20,7 +20,6 @@ use Rattle.terms.specs.declared.pattern.Node.the-variants.{Var, App}
 use Rattle.bank.specs.declared.cell.Cell as cells
 use Rattle.enter.specs.Enter.{enter}
 use Rattle.enter.specs.Machine.{whole, forest}
-use Rattle.enter.specs.Known.{AllKnown}
 use Rattle.enter.proofs.Machining.{var-after, app-after, join, forest-is}
 use Rattle.enter.proofs.Growing.{Modest, AllModest}
 
@@ -48,45 +47,6 @@ row-modest (App f a ∷ ns) ts e h =
     let r : AllModest (app f (v .front) ▹ v .rest) = ((omega (arith, v .wide), m .0), m .1) in
     subst AllModest (sym (v .heads)) r
 
-module _ (S : Sig) where
-  over-split : (us ws : Terms) → AllOver S (join us ws) → AllOver S us × AllOver S ws
-  over-split nil ws h = (tt, h)
-  over-split (u ▹ us) ws h = let r = over-split us ws (h .1) in ((h .0, r .0), r .1)
-
-  over-join : (us ws : Terms) → AllOver S us → AllOver S ws → AllOver S (join us ws)
-  over-join nil ws h k = k
-  over-join (u ▹ us) ws h k = (h .0, over-join us ws (h .1) k)
-
-  -- the symbols of the nodes are those of the terms
-  row-over : (ns : List Node) (ts : Terms) → row ns ≡ Some ts → AllKnown S ns → AllOver S ts
-  row-over [] ts e h = subst (AllOver S) (some-eq e) tt
-  row-over (Var x ∷ ns) ts e h =
-      let v = var-after x (row ns) ts e in
-      let m : AllOver S (var x ▹ v .0) = (tt, row-over ns (v .0) (v .1) (λ i l. h (suc i) (omega arith))) in
-      subst (AllOver S) (sym (v .2)) m
-  row-over (App f a ∷ ns) ts e h =
-      let v = app-after f a (row ns) ts e in
-      let k = h 0 (omega arith) in
-      let m = over-split (v .front) (v .rest) (subst (AllOver S) (sym (v .joins)) (row-over ns (v .all) (v .is) (λ i l. h (suc i) (omega arith)))) in
-      let r : AllOver S (app f (v .front) ▹ v .rest) = ((k .0, v .wide ∙ k .1, m .0), m .1) in
-      subst (AllOver S) (sym (v .heads)) r
-
-  over-row : (ns : List Node) (ts : Terms) → row ns ≡ Some ts → AllOver S ts → AllKnown S ns
-  over-row [] ts e h i l = absurd (let z : ⊥ = omega arith in z)
-  over-row (Var x ∷ ns) ts e h zero l = tt
-  over-row (Var x ∷ ns) ts e h (suc i) l =
-      let v = var-after x (row ns) ts e in
-      let m : AllOver S (var x ▹ v .0) = subst (AllOver S) (v .2) h in
-      over-row ns (v .0) (v .1) (m .1) i (omega arith)
-  over-row (App f a ∷ ns) ts e h zero l =
-      let v = app-after f a (row ns) ts e in
-      let m : AllOver S (app f (v .front) ▹ v .rest) = subst (AllOver S) (v .heads) h in
-      (m .0 .0, sym (v .wide) ∙ m .0 .1)
-  over-row (App f a ∷ ns) ts e h (suc i) l =
-      let v = app-after f a (row ns) ts e in
-      let m : AllOver S (app f (v .front) ▹ v .rest) = subst (AllOver S) (v .heads) h in
-      over-row ns (v .all) (v .is) (subst (AllOver S) (v .joins) (over-join (v .front) (v .rest) (m .0 .2) (m .1))) i (omega arith)
-
 one-term : (o : Option Terms) → isSome (alone o) ≡ true → o ≡ Some (valueOr (alone o) (var 0) ▹ nil)
 one-term None h = absurd (false≢true h)
 one-term (Some nil) h = absurd (false≢true h)
@@ -99,12 +59,6 @@ single p = one-term (row (nodes-of p)) (p .whole)
 
 pub modest : (p : Pattern) → Modest (term-of p)
 modest p = row-modest (nodes-of p) (term-of p ▹ nil) (single p) (p .within) .0
-
-pub known-over : (S : Sig) (p : Pattern) → AllKnown S (nodes-of p) → Over S (term-of p)
-known-over S p h = row-over S (nodes-of p) (term-of p ▹ nil) (single p) h .0
-
-pub over-known : (S : Sig) (p : Pattern) → Over S (term-of p) → AllKnown S (nodes-of p)
-over-known S p h = over-row S (nodes-of p) (term-of p ▹ nil) (single p) (h, tt)
 
 pub whole-enters : (p : Pattern) (m : ℕ) (bindings : List (Option ℕ)) (b : List cells.Cell) → whole m bindings (forest (nodes-of p) 0) b ≡ enter m bindings (term-of p) b
 whole-enters p m bindings b = ap (λ ts. whole m bindings ts b) (forest-is (nodes-of p) 0 (term-of p ▹ nil) (single p))

@@ -1,5 +1,4 @@
 pub mod Enter
 pub mod Machine
 pub mod Grown
-pub mod Known
 pub mod Outcome

@@ -2,15 +2,14 @@
 ghost use Rattle.enter.specs.Outcome.{Entered, Laid};
 use bank::cell::Cell;
 use bank::rules::keeps_rules;
-use known::all_known;
 use lent_list::Count;
 use machine::Open;
 use machine::run;
+use over::is_over;
 use refusal::Refusal;
 use signature::signature::Signature;
 use terms::pattern::Pattern;
 
-mod known;
 mod machine;
 mod note;
 #[cfg(test)]
@@ -26,7 +25,7 @@ pub fn enter(
     ensures { λ r. ⌜ Entered (now (signature .entry)) (now (pattern .entry)) (now (cells .entry)) (now (count .entry) .len) (now (cells .exit)) (now (count .exit) .len) r ⌝ }
 {
     keeps_rules(signature, cells, count)?;
-    if !all_known(signature, pattern.nodes()) {
+    if !is_over(signature, pattern) {
         return Err(Refusal::BankRules);
     }
     enter_instance(pattern, &[], cells, count)

@@ -3,7 +3,7 @@ ghost use Rattle.signature.specs.Signatures.{sig-of};
 ghost use Rattle.rewriting.specs.Order.{Within};
 ghost use Rattle.rewriting.specs.Kbo.{Kbo};
 use order::ReductionOrder;
-use order::over::are_over;
+use over::are_over;
 use signature::signature::Signature;
 use subterms::Subterms;
 use terms::pattern::Pattern;

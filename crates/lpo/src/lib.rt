@@ -4,7 +4,7 @@ ghost use Rattle.rewriting.specs.Order.{Within};
 ghost use Rattle.rewriting.specs.Lpo.{Lpo};
 use crate::sides::Sides;
 use order::ReductionOrder;
-use order::over::are_over;
+use over::are_over;
 use signature::signature::Signature;
 use subterms::Subterms;
 use terms::pattern::Pattern;

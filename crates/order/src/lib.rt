@@ -9,7 +9,6 @@ use signature::signature::Signature;
 use terms::pattern::Pattern;
 
 pub mod orient;
-pub mod over;
 pub mod sides;
 
 pub trait ReductionOrder {

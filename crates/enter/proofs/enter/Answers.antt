@@ -16,10 +16,9 @@ use Rattle.signature.specs.declared.signature.Signature.{Signature}
 use Rattle.bank.specs.declared.cell.Cell.{Cell}
 use Rattle.bank.specs.Checked.{Sized}
 use Rattle.enter.specs.Grown.{Binds, Grown}
-use Rattle.enter.specs.Known.{AllKnown}
 use Rattle.enter.specs.Outcome.{Laid, Entered, Fits}
 use Rattle.enter.proofs.Machining.{none-some}
-use Rattle.enter.proofs.Rows.{known-over, over-known, sub-var}
+use Rattle.enter.proofs.Rows.{sub-var}
 use Rattle.enter.proofs.enter.Needs as need
 
 unbound : (b : List Cell) → Binds b [] var
@@ -33,17 +32,13 @@ entered s p cells n cells′ n′ (Err e) sized fits (same, inl l) = absurd (l .
 entered s p cells n cells′ n′ (Err e) sized fits (same, inr (inl l)) = absurd (let z : ⊥ = omega (arith, l .1, fits .0 .counted) in z)
 entered s p cells n cells′ n′ (Err e) sized fits (same, inr (inr l)) = (same, inr (inr (sized, fits, l .2, l .3)))
 
-pub returns-then-not-all-known : need.returns-then-not-all-known
-returns-then-not-all-known c =
+pub returns-then-not-is-over : need.returns-then-not-is-over
+returns-then-not-is-over c =
     let sound = c .in-Continue-keeps-rules .ensures tt in
-    let S = sig-of (c .args .signature .now) in
-    let p = c .args .pattern .now in
-    (refl, inr (inl (sound .sized, (λ fits. false≢true (c .if-not-all-known .ensures tt .1 (subst (AllKnown S) (sym (c .nodes .ensures)) (over-known S p (fits .1))))), refl, refl)))
+    (refl, inr (inl (sound .sized, (λ fits. false≢true (c .if-not-is-over .ensures tt .1 (fits .1))), refl, refl)))
 
 pub returns : need.returns
 returns c =
     let sound = c .in-Continue-keeps-rules .ensures tt in
-    let S = sig-of (c .args .signature .now) in
-    let p = c .args .pattern .now in
-    let over = known-over S p (subst (AllKnown S) (c .nodes .ensures) (c .if-not-all-known .ensures tt .0 refl)) in
-    entered (c .args .signature .now) p (c .args .cells .now) (c .args .count .now .len) (c .enter-instance .last .cells) (c .enter-instance .last .count .len) (c .enter-instance .result) (sound .sized) (sound .keeps, over) (c .enter-instance .ensures)
+    let over = c .if-not-is-over .ensures tt .0 refl in
+    entered (c .args .signature .now) (c .args .pattern .now) (c .args .cells .now) (c .args .count .now .len) (c .enter-instance .last .cells) (c .enter-instance .last .count .len) (c .enter-instance .result) (sound .sized) (sound .keeps, over) (c .enter-instance .ensures)

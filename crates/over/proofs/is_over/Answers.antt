@@ -5,9 +5,9 @@ use Rattle.std.proofs.shelf.Lists.{at-drop-more, at-drop-all}
 use Rattle.terms.specs.declared.pattern.Node.the-variants.{Var}
 use Rattle.signature.specs.Signatures.{sig-of}
 use Rattle.subterms.specs.Variables.{every}
-use Rattle.order.specs.Nodes.{known}
-use Rattle.order.proofs.Known.{pattern-known}
-use Rattle.order.proofs.over.is_over.Needs as need
+use Rattle.over.specs.Nodes.{known}
+use Rattle.over.proofs.Known.{pattern-known}
+use Rattle.over.proofs.is_over.Needs as need
 
 pub returns-then-not-is-known : need.returns-then-not-is-known
 returns-then-not-is-known c =

@@ -4,7 +4,7 @@ ghost use Rattle.std.specs.Orderings.{Decides};
 ghost use Rattle.terms.specs.Sig.{Over};
 ghost use Rattle.terms.specs.Patterns.{term-of};
 ghost use Rattle.signature.specs.Signatures.{sig-of};
-ghost use Rattle.order.specs.Nodes.{known};
+ghost use Rattle.over.specs.Nodes.{known};
 use signature::signature::Signature;
 use terms::pattern::Node;
 use terms::pattern::Pattern;

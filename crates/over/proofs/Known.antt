@@ -12,7 +12,7 @@ use Rattle.terms.specs.Patterns.{nodes-of, term-of}
 use Rattle.terms.specs.declared.pattern.Pattern.{Pattern}
 use Rattle.subterms.specs.Variables.{every}
 use Rattle.subterms.proofs.Patterns.{pattern-nodes}
-use Rattle.order.specs.Nodes.{known}
+use Rattle.over.specs.Nodes.{known}
 
 and-assoc : (a b c : Bool) → (a && b && c) ≡ (a && (b && c))
 and-assoc true b c = refl
