@@ -46,3 +46,38 @@ pub fn number(text: &[u8], most: u32) -> Option<u32>
     }
     Some(n as u32)
 }
+
+#[cfg(test)]
+mod tests {
+    use super::*;
+    use std::test::*;
+
+    // Texts, with the number that each writes, if it is at most the last one.
+    static NUMBERS: [(&[u8], Option<u32>, u32); 8] = [
+        (b"0", Some(0), 4),
+        (b"100", Some(100), 100),
+        (b"101", None, 100),
+        (b"4294967295", Some(4_294_967_295), 4_294_967_295),
+        (b"18446744073709551616", None, 4_294_967_295),
+        (b"", None, 4),
+        (b"00", None, 4),
+        (b"+1", None, 4),
+    ];
+
+    #[test]
+    fn numbers() -> Result<(), Fail> {
+        for (text, value, most) in &NUMBERS {
+            check_eq(number(text, *most), *value)?;
+        }
+        Ok(())
+    }
+
+    #[test]
+    fn cuts() -> Result<(), Fail> {
+        let Some(field) = cut(b"a b c", b' ') else {
+            return Err(Fail::new("no space"));
+        };
+        check(field.bytes == b"a" && field.after == b"b c")?;
+        check(cut(b"abc", b' ').is_none())
+    }
+}

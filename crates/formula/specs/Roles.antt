@@ -1,8 +1,9 @@
 -- Roles and signs.
 use mathlib.Core.Bool.{cond}
-use mathlib.Core.List.{List}
+use mathlib.Core.List.{List, [], _∷_}
 use Prim.Native.Nat.{ℕ}
 use lib.Chars.{codes}
+use Rattle.lexer.specs.Tokens.{Lexeme}
 use Rattle.lexer.specs.declared.token.Kind.{Kind}
 use Rattle.lexer.specs.declared.token.Kind.the-variants.{Equal}
 use Rattle.grammar.specs.Kinds.{same-bytes, same-kind}
@@ -17,3 +18,12 @@ role-named w = cond (same-bytes w (codes "axiom")) Axiom (cond (same-bytes w (co
 
 abbrev pub sign-of : Kind → Sign
 sign-of k = cond (same-kind k Equal) sign.Equal sign.Unequal
+
+-- of the first of some tokens
+abbrev pub role-first : List Lexeme → Role
+role-first [] = Other
+role-first (t ∷ ts) = role-named (t .bytes)
+
+abbrev pub sign-first : List Lexeme → Sign
+sign-first [] = sign.Unequal
+sign-first (t ∷ ts) = sign-of (t .kind)

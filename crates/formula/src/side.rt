@@ -6,6 +6,7 @@ use terms::pattern::Node;
 
 mod methods;
 
+pub use methods::RefusalFromTooLarge;
 pub use methods::read_side;
 
 // At most 32 nodes.

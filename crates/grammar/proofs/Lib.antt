@@ -5,3 +5,4 @@ pub mod Formulas
 pub mod Prefixes
 pub mod Walks
 pub mod Handing
+pub mod Unique

@@ -18,3 +18,7 @@ Begins ts = (us : List Lexeme) × Complete (ts ++ us)
 pub data Misfit (ts : List Lexeme) (len : ℕ) : ℕ → Type 0 where
   at-token : (t : Lexeme) (before after : List Lexeme) → ts ≡ before ++ t ∷ after → Begins before → (Begins (before ++ t ∷ []) → ⊥) → Misfit ts len (t .place)
   at-end : Begins ts → (Complete ts → ⊥) → Misfit ts len len
+
+-- no tokens are one formula in two ways
+abbrev pub Unambiguous : List Lexeme → Type 0
+Unambiguous ts = (x y : Parsed) → Formula ts x [] → Formula ts y [] → x ≡ y

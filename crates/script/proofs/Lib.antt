@@ -1,2 +1,3 @@
 mod Escaping
 mod Quoting
+mod Spaces

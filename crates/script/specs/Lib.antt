@@ -1,1 +1,4 @@
 pub mod Escapes
+pub mod Spellings
+pub mod Says
+pub mod Replies

@@ -1,6 +1,4 @@
 // What a line of the script can say.
-use std::alloc::Global;
-
 #[derive(Clone, Copy, PartialEq, Eq, Debug)]
 pub enum Order {
     Kbo,
@@ -21,6 +19,26 @@ pub struct Limits {
 }
 
 #[derive(Drop)]
+pub struct Goal {
+    pub limits: Limits,
+    pub formula: Vec<u8>,
+}
+
+// The word that a line begins with.
+#[derive(Clone, Copy, PartialEq, Eq, Debug)]
+pub enum Word {
+    Signature,
+    Open,
+    Add,
+    Remove,
+    Audit,
+    Release,
+    Simplify,
+    Judge,
+    Read,
+}
+
+#[derive(Drop)]
 pub enum Call {
     Signature(Vec<u8>),
     Open {
@@ -35,14 +53,8 @@ pub enum Call {
     Remove(u32),
     Audit(Limits),
     Release,
-    Simplify {
-        limits: Limits,
-        formula: Vec<u8>,
-    },
-    Judge {
-        limits: Limits,
-        formula: Vec<u8>,
-    },
+    Simplify(Goal),
+    Judge(Goal),
     Read(Vec<u8>),
 }
 

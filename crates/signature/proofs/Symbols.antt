@@ -3,10 +3,10 @@ use mathlib.Core.Path.{_≡_, sym, ap, _∙_}
 use mathlib.Core.List.{List, [], _∷_, map}
 use Prim.Native.Nat.{ℕ, zero, suc, _≤_, _<_}
 use native.Mathlib.Omega.{arith}
-use lib.ListN.{length, take, getD}
+use lib.ListN.{length, getD}
 use lib.Seq.{length-take-le, getD-take}
 use Rattle.std.proofs.shelf.Lists.{getD-map}
-use Rattle.signature.specs.Signatures.{symbols-of, arities, weights, sig-of}
+use Rattle.signature.specs.Signatures.{symbols-of, sig-of}
 use Rattle.signature.specs.declared.symbol.Symbol.{Symbol}
 use Rattle.signature.specs.declared.signature.Signature.{Signature}
 

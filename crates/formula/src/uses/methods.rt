@@ -131,7 +131,7 @@ impl Uses {
 
 // The lowest place of a symbol that is not the signature's, or has another number of arguments than its arity.
 pub fn first_misused(signature: &Signature, text: &[u8], at: usize) -> Option<usize>
-    requires { ⌜ length (now text) ≤ 32768 ⌝ ∗ ⌜ at ≤ length (now text) ⌝ }
+    requires { ⌜ length (now text) ≤ 32768 ⌝ }
     ensures { λ r. ⌜ r ≡ scan (now (signature .entry)) [] None (tokens-from (drop at (now (text .entry))) at) ⌝ }
 {
     let mut uses = Uses::new();

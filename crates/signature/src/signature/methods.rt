@@ -1,14 +1,12 @@
 ghost use mathlib.Core.Path.{_≡_};
 ghost use mathlib.Core.List.{[]};
 ghost use Prim.Native.Nat.{ℕ, _≤_, _<_};
-ghost use lib.ListN.{take, length, getD};
+ghost use lib.ListN.{getD};
 ghost use Rattle.std.specs.Options.{Cases as BySome};
-ghost use Rattle.terms.specs.Sig.{Sig};
 ghost use Rattle.signature.specs.Lines.{spelled};
-ghost use Rattle.signature.specs.Signatures.{sig-of, symbols-of, names-of};
+ghost use Rattle.signature.specs.Signatures.{sig-of, names-of};
 use super::Signature;
 use crate::name::Name;
-use crate::symbol::Symbol;
 use crate::symbol::position;
 
 impl Signature {

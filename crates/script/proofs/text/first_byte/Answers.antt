@@ -1,7 +1,7 @@
-use mathlib.Core.Path.{_≡_, sym, ap, _∙_}
+use mathlib.Core.Path.{sym, ap, _∙_}
 use native.Mathlib.Omega.{arith}
 use borrow.Author.Needs.{needs}
-use lib.ListN.{length, drop, getD}
+use lib.ListN.{drop}
 use Rattle.script.specs.Escapes.{onto, unescaped}
 use Rattle.script.proofs.Escaping.{code-first}
 use Rattle.script.proofs.text.first_byte.Needs as need

@@ -1,10 +1,8 @@
-use mathlib.Core.Path.{_≡_, sym, ap, _∙_}
-use mathlib.Core.List.{List}
+use mathlib.Core.Path.{_≡_}
 use Prim.Native.Nat.{ℕ, _-_}
 use native.Mathlib.Omega.{arith}
 use lib.ListN.{length, take, drop}
 use Rattle.std.proofs.shelf.Results.{cases-weaker}
-use Rattle.script.specs.Escapes.{unescaped, Quoted}
 use Rattle.script.proofs.Quoting.{between, quoted-long, quoted-first, quoted-last, quoted-inner}
 use Rattle.script.proofs.text.quoted.Needs as need
 use Rattle.script.proofs.text.quoted.Needs.{else-len-ge2·by·then-len-ge2·then-text-eq34·else-text-len-eq34, else-len-ge2·by·then-len-ge2·else-text-eq34, else-len-ge2·by·else-len-ge2}

@@ -1,14 +1,12 @@
 use mathlib.Core.Path.{_≡_, sym, ap, _∙_}
-use mathlib.Core.Bool.{cond}
 use mathlib.Core.List.{[], _∷_, _++_}
-use lib.ListN.{drop}
 use Prim.Native.Nat.{ℕ}
 use native.Mathlib.Omega.{arith}
 use Rattle.std.specs.Of.Vec.{vec-items}
 use Rattle.std.proofs.shelf.Tests.{eqb-true}
-use Rattle.std.proofs.shelf.Lists.{nil-from-length, take-rest}
+use Rattle.std.proofs.shelf.Lists.{nil-from-length}
 use Rattle.script.specs.Escapes.{unescaped}
-use Rattle.script.proofs.Escaping.{before, before-push, before-none, before-all, codes-stand, plain-stand}
+use Rattle.script.proofs.Escaping.{before, before-more, before-none, before-all, codes-stand, plain-stand}
 use Rattle.script.proofs.text.unescape.Needs as need
 
 pub returns-in-rest : need.returns-in-rest
@@ -30,11 +28,9 @@ returns-then-is-err c = record {
 pub loop-rest-again : need.loop-rest-again
 loop-rest-again c =
     let bytes = vec-items (c .loop-rest .bytes) in
-    let rest = c .loop-rest .rest .now in
     let byte = c .in-Some .first .byte in
-    let len = c .in-Some .first .len in
-    let pushed : vec-items (c .push .last .self) ≡ bytes ++ byte ∷ [] = c .push .ensures .items ∙ ap (λ b. cond b (bytes ++ byte ∷ []) bytes) (c .if-is-err .ensures tt .test) in
-    c .loop-rest .inv ∙ ap (before bytes) (c .in-Some .ensures tt .0) ∙ sym (before-push bytes byte (unescaped (drop len rest))) ∙ ap (λ xs. before xs (unescaped (drop len rest))) (sym pushed) ∙ ap (λ r. before (vec-items (c .push .last .self)) (unescaped r)) (sym (take-rest rest len))
+    let pushed : vec-items (c .push .last .self) ≡ bytes ++ byte ∷ [] = rw (c .if-is-err .ensures tt .test) at (c .push .ensures .items) in
+    before-more (c .args .text .now) (c .loop-rest .rest .now) bytes (vec-items (c .push .last .self)) byte (c .in-Some .first .len) (c .loop-rest .inv) (c .in-Some .ensures tt .0) pushed
 
 pub returns : need.returns
 returns c =

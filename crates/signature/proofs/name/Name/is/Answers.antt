@@ -1,4 +1,3 @@
-use Rattle.std.proofs.shelf.Ways.{decides-like}
 use Rattle.std.proofs.shelf.Equals.{matches-decides}
 use Rattle.signature.proofs.name.Name.is.Needs as need
 

@@ -1,11 +1,11 @@
-use mathlib.Core.Path.{_≡_, refl, sym, ap, subst, _∙_}
+use mathlib.Core.Path.{_≡_, refl, sym, ap, _∙_}
 use mathlib.Core.Logic.{inl, inr}
-use mathlib.Core.Bool.{Bool, true, false, false≢true}
-use mathlib.Core.List.{List, [], _∷_, _++_, map, append-assoc, append-nil}
+use mathlib.Core.Bool.{true, false, false≢true}
+use mathlib.Core.List.{List, [], _++_, map, append-nil}
 use Prim.Native.Nat.{ℕ, _+_, _-_, _≤_, _<_}
 use native.Mathlib.Omega.{arith}
 use lib.Dec.{eqb}
-use lib.ListN.{length, take, drop, getD, set}
+use lib.ListN.{length, take, drop, getD}
 use Rattle.std.specs.Options.{Cases, isSome}
 use Rattle.std.specs.declared.option.Option.{Option}
 use Rattle.std.specs.declared.option.Option.the-variants.{None, Some}
@@ -13,9 +13,8 @@ use Rattle.std.specs.shelf.Lists.{joined}
 use Rattle.std.proofs.shelf.Tests.{eqb-false, eqb-true}
 use Rattle.std.proofs.shelf.Lists.{length-map, length-take-le, length-set, take-rest, nil-from-length}
 use Rattle.signature.specs.Lines.{names, spelled, Absent}
-use Rattle.signature.specs.Texts.{Line, text-of}
+use Rattle.signature.specs.Texts.{text-of}
 use Rattle.signature.specs.Signatures.{line-of}
-use Rattle.signature.specs.declared.symbol.Symbol.{Symbol}
 use Rattle.signature.proofs.Sounds.{refused, last-well, bad-again, text-more, apart-more, sound-lines}
 use Rattle.signature.proofs.Once.{once}
 use Rattle.signature.proofs.signature.Signature.read.Needs as need

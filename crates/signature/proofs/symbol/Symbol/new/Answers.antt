@@ -1,4 +1,4 @@
-use mathlib.Core.Path.{sym, ap, _∙_}
+use mathlib.Core.Path.{sym, _∙_}
 use native.Mathlib.Omega.{arith}
 use Rattle.std.proofs.shelf.Decimals.{same-from-decimal}
 use Rattle.signature.proofs.symbol.Symbol.new.Needs as need

@@ -1,0 +1,1 @@
+// The mathematics of reduction orders, in specs/ and proofs/: it has no code.

@@ -1,0 +1,4 @@
+pub mod Spelling
+pub mod Parsing
+pub mod Counting
+pub mod Back

@@ -1,0 +1,3 @@
+pub mod Variables
+pub mod Texts
+pub mod RoundTrip

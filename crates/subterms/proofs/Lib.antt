@@ -1,0 +1,5 @@
+pub mod Preorders
+pub mod Places
+pub mod Patterns
+pub mod Counting
+pub mod Tables
