@@ -1,6 +1,5 @@
 // Whether cells and a count of any content are a bank that keeps its rules for a signature.
-ghost use mathlib.Core.Path.{_≡_};
-ghost use Prim.Native.Nat.{_<_, _≤_};
+ghost use Prim.Native.Nat.{_<_};
 ghost use lib.ListN.{length, getD};
 ghost use Rattle.std.specs.Orderings.{Decides};
 ghost use Rattle.signature.specs.Signatures.{sig-of};

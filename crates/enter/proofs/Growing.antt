@@ -1,12 +1,12 @@
 -- Entering keeps the rules, and the cell entered stands for the term.
-use mathlib.Core.Path.{_≡_, refl, sym, ap, ap₂, subst, _∙_}
+use mathlib.Core.Path.{_≡_, refl, sym, ap, subst, _∙_}
 use mathlib.Core.Bool.{Bool, true, false, cond}
-use mathlib.Core.Logic.{_⊎_, inl, inr}
+use mathlib.Core.Logic.{inl, inr}
 use mathlib.Core.List.{List, [], _∷_, _++_, append-nil, append-assoc}
 use Prim.Native.Nat.{ℕ, zero, suc, _+_, _<_, _≤_}
 use native.Mathlib.Omega.{arith}
 use lib.Dec.{ltb}
-use lib.ListN.{length, getD, take, replicate, length-append}
+use lib.ListN.{length, getD, take, replicate}
 use Rattle.std.specs.declared.option.Option.{Option}
 use Rattle.std.specs.declared.option.Option.the-variants.{None, Some}
 use Rattle.std.proofs.shelf.Lists.{getD-past, getD-append-left, getD-at, length-push}
@@ -15,11 +15,11 @@ use Rattle.terms.specs.Term.{Term, Terms, var, app, nil, _▹_, width, sub, sub
 use Rattle.terms.specs.Sig.{Sig, Over, AllOver}
 use Rattle.bank.specs.declared.cell.Cell.{Cell}
 use Rattle.bank.specs.declared.cell.Cell.the-variants.{Var, App}
-use Rattle.bank.specs.Rules.{Slots, Node, Fitting, Rules, Earlier}
+use Rattle.bank.specs.Rules.{Fitting, Rules}
 use Rattle.bank.specs.Means.{Means, MeansAll, is-var, is-app, none, and}
 use Rattle.bank.proofs.Readings.{grown, grown-all, tall}
-use Rattle.enter.specs.Enter.{same-cell, place, next, noted, note, chain, fill, blank, bound, enter, enters, Entry}
-use Rattle.enter.specs.Grown.{Part, Parts, Binds, Grown}
+use Rattle.enter.specs.Enter.{same-cell, place, next, noted, note, chain, fill, blank, bound, enter, enters}
+use Rattle.enter.specs.Grown.{Parts, Binds, Grown}
 use Rattle.enter.proofs.Noting.{same-decides}
 use Rattle.enter.proofs.Machining.{none-some, both}
 

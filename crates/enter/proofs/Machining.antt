@@ -1,8 +1,8 @@
 -- What one turn of the machine comes to.
 use mathlib.Core.Path.{_≡_, refl, sym, ap, ap₂, subst, _∙_}
-use mathlib.Core.Bool.{Bool, true, false, _&&_}
-use mathlib.Core.Logic.{_⊎_, inl, inr}
-use mathlib.Core.List.{List, [], _∷_, reverse}
+use mathlib.Core.Bool.{true, false}
+use mathlib.Core.Logic.{inl, inr}
+use mathlib.Core.List.{List, [], _∷_}
 use Prim.Native.Nat.{ℕ, zero, suc, _+_, _-_, _<_, _≤_}
 use native.Mathlib.Omega.{arith}
 use lib.Dec.{ltb}
@@ -20,10 +20,9 @@ use Rattle.terms.specs.declared.pattern.Node.the-variants.{Var, App}
 use Rattle.bank.specs.declared.cell.Cell as cells
 use Rattle.bank.specs.declared.cell.Cell.the-variants as cell
 use Rattle.enter.specs.Enter.{Entry, note, chain, fill, blank, bound, enter, enters}
-use Rattle.enter.specs.Machine.{given, entered, after, whole, onward, forest, opens, later, wanted, Waiting, Sound, Ready, Holding, left, held, Turned, Finished, Delivered, weight, Falls, idle}
+use Rattle.enter.specs.Machine.{given, entered, after, onward, forest, opens, later, wanted, Waiting, Sound, Ready, Holding, left, held, Turned, Finished, Delivered, weight, Falls, idle}
 use Rattle.enter.specs.declared.machine.Open.{Open}
 use Rattle.enter.specs.declared.machine.Turn.{Turn}
-use Rattle.enter.specs.declared.machine.Turn.the-variants.{On, Done, Full}
 
 abbrev pub both : List cells.Cell → List ℕ → List cells.Cell × List ℕ
 both b is = (b, is)

@@ -1,24 +1,24 @@
 -- One cell into the bank.
-use mathlib.Core.Path.{_≡_, refl, sym, ap, ap₂, subst, _∙_}
-use mathlib.Core.Bool.{Bool, true, false, _&&_, cond}
-use mathlib.Core.Logic.{_⊎_, inl, inr}
+use mathlib.Core.Path.{_≡_, refl, sym, ap, ap₂, _∙_}
+use mathlib.Core.Bool.{true, false, _&&_}
+use mathlib.Core.Logic.{inl, inr}
 use mathlib.Core.List.{List, [], _∷_, _++_}
 use Prim.Native.Nat.{ℕ, zero, suc, _+_, _<_, _≤_}
 use native.Mathlib.Omega.{arith}
-use lib.Dec.{eqb, ltb}
-use lib.ListN.{length, getD, take, set}
+use lib.Dec.{eqb}
+use lib.ListN.{length, getD, take}
 use Rattle.std.specs.Orderings.{Decides}
 use Rattle.std.specs.shelf.Text.{sameBytes}
 use Rattle.std.specs.declared.option.Option.{Option}
 use Rattle.std.specs.declared.option.Option.the-variants.{None, Some}
 use Rattle.std.proofs.shelf.Equals.{sameBytes-decides}
 use Rattle.std.proofs.shelf.Tests.{cases-bool, false≢true, lt-ltb, le-ltb}
-use Rattle.std.proofs.shelf.Ways.{decides-eqb, decides-and, decides-like, not-from-decides}
+use Rattle.std.proofs.shelf.Ways.{decides-eqb, decides-and, decides-like}
 use Rattle.std.proofs.shelf.Lists.{take-more-set, take-set, getD-take, length-take-le, length-set, take-take}
 use Rattle.lent_list.specs.Words.{First, Appended}
 use Rattle.bank.specs.declared.cell.Cell.{Cell}
 use Rattle.bank.specs.declared.cell.Cell.the-variants.{Var, App}
-use Rattle.enter.specs.Enter.{same-cell, next, place, noted, note}
+use Rattle.enter.specs.Enter.{same-cell, place, note}
 use Rattle.enter.specs.Machine.{Put, Gives, Grew}
 
 abbrev SameApp : (f g m n : ℕ) (xs ys : List ℕ) → Type 0

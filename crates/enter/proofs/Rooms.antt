@@ -1,11 +1,11 @@
 -- A bank that refuses a term cannot be grown to hold it within its cells.
-use mathlib.Core.Path.{_≡_, refl, sym, ap, subst, _∙_}
-use mathlib.Core.Bool.{Bool, true, false, cond}
-use mathlib.Core.Logic.{_⊎_, inl, inr}
+use mathlib.Core.Path.{_≡_, refl, sym, subst, _∙_}
+use mathlib.Core.Bool.{cond}
+use mathlib.Core.Logic.{inl, inr}
 use mathlib.Core.List.{List, [], _∷_, _++_}
 use Prim.Native.Nat.{ℕ, zero, suc, _<_, _≤_}
 use native.Mathlib.Omega.{arith}
-use lib.Dec.{eqb, ltb}
+use lib.Dec.{eqb}
 use lib.ListN.{length, getD, take}
 use Rattle.std.specs.declared.option.Option.{Option}
 use Rattle.std.specs.declared.option.Option.the-variants.{None, Some}
@@ -16,9 +16,9 @@ use Rattle.terms.specs.Sig.{Sig, Over, AllOver}
 use Rattle.bank.specs.declared.cell.Cell.{Cell}
 use Rattle.bank.specs.declared.cell.Cell.the-variants.{Var, App}
 use Rattle.bank.specs.Rules.{Fitting, Rules}
-use Rattle.bank.specs.Means.{Means, MeansAll, is-var, is-app, none, and}
+use Rattle.bank.specs.Means.{Means, MeansAll, is-var, is-app, and}
 use Rattle.bank.proofs.Readings.{grown, reads, means-one, same, tall}
-use Rattle.enter.specs.Enter.{Entry, place, noted, note, chain, fill, blank, bound, enter, enters}
+use Rattle.enter.specs.Enter.{place, noted, note, chain, fill, blank, bound, enter, enters}
 use Rattle.enter.specs.Grown.{Part, Parts, Binds, Grown}
 use Rattle.enter.proofs.Machining.{none-some, chain-some, both}
 use Rattle.enter.proofs.Growing.{Modest, AllModest, Noted, GrownAll, appended, entered-app, fitting-app, binds-grown, same-width, means-within, enter-law, enters-law}

@@ -2,15 +2,14 @@
 use mathlib.Core.Path.{_≡_, refl, sym, ap, ap₂, subst, _∙_}
 use mathlib.Core.Bool.{true, _&&_}
 use mathlib.Core.List.{List, [], _∷_}
-use Prim.Native.Nat.{ℕ, zero, suc, _+_, _<_, _≤_}
+use Prim.Native.Nat.{ℕ, zero, suc}
 use native.Mathlib.Omega.{arith}
 use lib.Dec.{ltb}
-use lib.ListN.{length, getD}
 use Rattle.std.specs.Options.{isSome, valueOr}
 use Rattle.std.specs.declared.option.Option.{Option}
 use Rattle.std.specs.declared.option.Option.the-variants.{None, Some}
 use Rattle.std.proofs.shelf.Tests.{and-parts, ltb-true, false≢true}
-use Rattle.terms.specs.Term.{Term, Terms, var, app, nil, _▹_, width, sub, subs}
+use Rattle.terms.specs.Term.{Term, Terms, var, app, nil, _▹_, sub, subs}
 use Rattle.terms.specs.Sig.{Sig, Over, AllOver}
 use Rattle.terms.specs.Preorder.{row, alone, all-small}
 use Rattle.terms.specs.Patterns.{nodes-of, term-of}

@@ -9,7 +9,7 @@ use Rattle.std.specs.Options.{valueOr}
 use Rattle.std.specs.declared.option.Option.{Option}
 use Rattle.std.specs.declared.option.Option.the-variants.{None, Some}
 use Rattle.lent_list.specs.Words.{First, Appended}
-use Rattle.terms.specs.Term.{Term, Terms, nil, _▹_}
+use Rattle.terms.specs.Term.{Terms, nil, _▹_}
 use Rattle.terms.specs.Preorder.{row, split, Reads, all-small}
 use Rattle.terms.specs.declared.pattern.Node.{Node}
 use Rattle.bank.specs.declared.cell.Cell.{Cell}

@@ -1,6 +1,4 @@
 // A term's nodes in preorder into the bank, with a stack in place of recursion.
-ghost use mathlib.Core.Path.{_≡_};
-ghost use mathlib.Core.Bool.{true};
 ghost use Prim.Native.Nat.{_-_, _<_, _≤_};
 ghost use lib.ListN.{length, take, getD};
 ghost use Rattle.std.specs.declared.option.Option.the-variants.{None};

@@ -1,23 +1,23 @@
 -- One turn of the walk, case by case.
 use mathlib.Core.Path.{_≡_, refl, sym, ap, ap₂, subst, _∙_}
-use mathlib.Core.Logic.{_⊎_, inl, inr}
+use mathlib.Core.Logic.{inl, inr}
 use mathlib.Core.List.{List, [], _∷_, _++_, reverse, append-assoc, append-nil}
 use Prim.Native.Nat.{ℕ, zero, suc, _+_, _-_, _<_, _≤_}
 use native.Mathlib.Numerals.{add-one}
 use native.Mathlib.Omega.{arith}
-use lib.ListN.{length, getD, take, drop, set, length-drop}
+use lib.ListN.{length, getD, take, drop, set}
 use Rattle.std.specs.Written.{decimal}
 use Rattle.std.proofs.shelf.Lists.{length-take-le, drop-all, drop-more, getD-take, length-set}
 use Rattle.lent_list.proofs.Stacks.{peel, pushed, replaced, height}
-use Rattle.terms.specs.Term.{Term, Terms, var, app, nil, _▹_}
+use Rattle.terms.specs.Term.{Term, Terms, app, nil, _▹_}
 use Rattle.terms.specs.Sig.{Sig}
 use Rattle.signature.specs.Written.{written, written-args, written-more}
 use Rattle.bank.specs.declared.cell.Cell.{Cell}
 use Rattle.bank.specs.declared.cell.Cell.the-variants.{Var, App}
-use Rattle.bank.specs.Rules.{Rules, Fitting, Node}
+use Rattle.bank.specs.Rules.{Fitting, Node}
 use Rattle.bank.specs.Means.{Means, MeansAll}
 use Rattle.bank.proofs.Readings.{node, clash, open-var, open-app, open-none, open-args}
-use Rattle.writer.specs.Walks.{Fresh, Begun, Stacked, Left, Walking, onward}
+use Rattle.writer.specs.Walks.{Begun, Stacked, Left, Walking, onward}
 use Rattle.writer.specs.declared.walk.Frame.{Frame}
 
 abbrev pub blank : Frame

@@ -1,5 +1,4 @@
 // A walk over the occurrences of a cell's term, with a stack in place of recursion.
-ghost use mathlib.Core.Path.{_≡_};
 ghost use mathlib.Core.List.{List, reverse};
 ghost use Prim.Native.Nat.{ℕ};
 ghost use lib.ListN.{take};

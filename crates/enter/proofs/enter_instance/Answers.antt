@@ -1,5 +1,5 @@
-use mathlib.Core.Path.{_≡_, refl, sym, ap, _∙_}
-use mathlib.Core.Logic.{inl, inr}
+use mathlib.Core.Path.{refl, sym, ap, _∙_}
+use mathlib.Core.Logic.{inr}
 use borrow.Author.Needs.{needs}
 use lib.ListN.{length, take}
 use Rattle.terms.specs.Patterns.{term-of}

@@ -1,13 +1,10 @@
-use mathlib.Core.Path.{_≡_, refl, sym, ap, subst, _∙_}
-use mathlib.Core.List.{_++_}
-use Prim.Native.Nat.{_+_, _<_, _≤_}
+use mathlib.Core.Path.{refl, ap}
 use native.Mathlib.Omega.{arith}
-use lib.ListN.{length, length-append, length-set}
+use lib.ListN.{length, length-append}
 use Rattle.std.proofs.shelf.Tests.{false≢true}
 use Rattle.signature.specs.Signatures.{sig-of, names-of}
 use Rattle.signature.specs.Written.{written}
 use Rattle.bank.proofs.Readings.{means-one}
-use Rattle.writer.specs.Pieces.{shown}
 use Rattle.writer.proofs.Progress.{begin, ended}
 use Rattle.writer.proofs.fits.Needs as need
 

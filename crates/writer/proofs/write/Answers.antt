@@ -1,13 +1,12 @@
-use mathlib.Core.Path.{_≡_, refl, sym, ap, subst, _∙_}
+use mathlib.Core.Path.{_≡_, refl, sym, ap, _∙_}
 use mathlib.Core.List.{List, _++_, append-nil, append-assoc}
-use Prim.Native.Nat.{ℕ, _+_, _<_, _≤_}
+use Prim.Native.Nat.{ℕ, _+_}
 use native.Mathlib.Omega.{arith}
 use lib.ListN.{length, take, drop, length-append}
 use Rattle.std.proofs.shelf.Lists.{drop-drop}
 use Rattle.signature.specs.Signatures.{sig-of, names-of}
 use Rattle.signature.specs.Written.{written}
 use Rattle.bank.proofs.Readings.{means-one}
-use Rattle.writer.specs.Pieces.{shown}
 use Rattle.writer.proofs.Progress.{begin, ended, filled}
 use Rattle.writer.proofs.write.Needs as need
 

@@ -1,6 +1,6 @@
-use mathlib.Core.Path.{_≡_, refl, sym, ap, subst, _∙_}
+use mathlib.Core.Path.{_≡_, sym, subst}
 use lib.ListN.{length, getD, take}
-use Rattle.std.specs.declared.option.Option.the-variants.{None, Some}
+use Rattle.std.specs.declared.option.Option.the-variants.{None}
 use Rattle.std.proofs.shelf.Lists.{getD-past}
 use Rattle.bank.specs.declared.cell.Cell.the-variants.{Var}
 use Rattle.enter.specs.Enter.{bound}

@@ -1,10 +1,9 @@
-use mathlib.Core.Path.{_≡_, refl, sym, ap, subst, _∙_}
-use mathlib.Core.List.{List, [], _∷_, _++_, reverse}
-use Prim.Native.Nat.{ℕ, _+_, _-_, _<_, _≤_}
+use mathlib.Core.Path.{_≡_, sym, ap, _∙_}
+use mathlib.Core.List.{_∷_, _++_}
+use Prim.Native.Nat.{_+_, _-_}
 use native.Mathlib.Omega.{arith}
-use lib.ListN.{length, getD, take, set}
+use lib.ListN.{getD}
 use Rattle.std.proofs.shelf.Lists.{length-set, take-set}
-use Rattle.writer.specs.Walks.{Left, Turned}
 use Rattle.writer.proofs.Walking.{blank, opened, top-counted, small-variable, standing, push-room, mark-at, mark-first, mark-later, var-turn, symbol-alone, symbol-first, going-on, close-turn, argument-turn}
 use Rattle.writer.proofs.walk.advance.Needs as need
 use Rattle.writer.proofs.walk.advance.Needs.{then-arity-eq0, else-arity-eq0, then-done-eq0, else-done-eq0}
