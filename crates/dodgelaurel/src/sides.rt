@@ -1,0 +1,127 @@
+// The two sides of a formula: written back from a bank, and compared.
+use bank::cell::Cell;
+use enter::enter;
+use formula::equation::Equation;
+use formula::equation::Role;
+use formula::equation::Sign;
+use kbo::KnuthBendix;
+use kbo::KnuthBendixOrder;
+use lent_list::Count;
+use lpo::LexicographicPath;
+use lpo::LexicographicPathOrder;
+use order::ReductionOrder;
+use order::orient::orient;
+use order::sides::Side;
+use refusal::Refusal;
+use signature::signature::Signature;
+use std::alloc::AllocError;
+use std::alloc::Global;
+use terms::pattern::Pattern;
+use writer::write_term;
+
+// As large as a bank may be.
+const BANK: usize = 2048;
+
+// A pattern has at most 32 cells, each at most a name of 16 bytes with a parenthesis and a comma.
+const LONGEST: usize = 1024;
+
+// Why there are no sides to show.
+#[derive(Clone, Copy)]
+pub enum Fault {
+    Refused(Refusal),
+    NoMemory,
+}
+
+pub impl From<Refusal> for Fault as FaultFromRefusal {
+    fn from(refusal: Refusal) -> Fault {
+        Fault::Refused(refusal)
+    }
+}
+
+pub impl From<AllocError> for Fault as FaultFromAlloc {
+    fn from(_error: AllocError) -> Fault {
+        Fault::NoMemory
+    }
+}
+
+// Both sides as text, and how many cells of a bank they share.
+#[derive(Drop)]
+pub struct Sides {
+    pub left: Vec<u8>,
+    pub right: Vec<u8>,
+    pub cells: usize,
+}
+
+pub fn write_sides(
+    heap: Global,
+    signature: &Signature,
+    equation: &Equation,
+) -> Result<Sides, Fault> {
+    let mut cells = vec![in heap; Cell::Var(0); BANK]?;
+    let mut count = Count { len: 0 };
+    let left = write_side(
+        heap,
+        signature,
+        &equation.left,
+        cells.as_mut_slice(),
+        &mut count,
+    )?;
+    let right = write_side(
+        heap,
+        signature,
+        &equation.right,
+        cells.as_mut_slice(),
+        &mut count,
+    )?;
+    Ok(Sides {
+        left,
+        right,
+        cells: count.len,
+    })
+}
+
+// Enters the term into the bank, and writes it from there.
+fn write_side(
+    heap: Global,
+    signature: &Signature,
+    side: &Pattern,
+    cells: &mut [Cell],
+    count: &mut Count,
+) -> Result<Vec<u8>, Fault> {
+    let cell = enter(signature, side, cells, count)?;
+    let mut text = vec![in heap; 0; LONGEST]?;
+    let len = write_term(signature, cells, count, cell, text.as_mut_slice())?;
+    text.truncate(len);
+    Ok(text)
+}
+
+// The higher side under each order.
+#[derive(Clone, Copy)]
+pub struct Higher {
+    pub knuth_bendix: Option<Side>,
+    pub path: Option<Side>,
+}
+
+// Which side is higher, of an equation that may become a rewrite rule.
+pub fn higher_sides(signature: &Signature, equation: &Equation) -> Option<Higher> {
+    if !is_rule(equation.role, equation.sign) {
+        return None;
+    }
+    Some(Higher {
+        knuth_bendix: orient(&KnuthBendix, signature, &equation.left, &equation.right),
+        path: orient(
+            &LexicographicPath,
+            signature,
+            &equation.left,
+            &equation.right,
+        ),
+    })
+}
+
+// Axioms and hypotheses with = are rules; others are goals.
+fn is_rule(role: Role, sign: Sign) -> bool {
+    match (role, sign) {
+        (Role::Axiom | Role::Hypothesis, Sign::Equal) => true,
+        _ => false,
+    }
+}
