@@ -98,13 +98,14 @@ impl Uses {
         if self.depth > 0 {
             self.depth -= 1;
             let frame = self.frames[self.depth];
-            self.note(frame.args == frame.arity, frame.place);
+            self.note(frame.args == frame.arity, frame.place as usize);
         }
     }
 
     // One token more; `opened` says whether a parenthesis opens behind it.
     fn see(&mut self, signature: &Signature, token: &Token<'_>, opened: bool)
-        requires { ⌜ now self .depth < 32768 ⌝ }
+        requires room { ⌜ now self .depth < 32768 ⌝ }
+        requires near { ⌜ now token .place < 65536 ⌝ }
         ensures stack { λ _. ⌜ stack-of (now (self .exit)) ≡ stacked (now (signature .entry)) (stack-of (now (self .entry))) (lexeme-of (now (token .entry))) opened ⌝ }
         ensures lowest { λ _. ⌜ now (self .exit) .lowest ≡ noted (now (signature .entry)) (stack-of (now (self .entry))) (now (self .entry) .lowest) (lexeme-of (now (token .entry))) opened ⌝ }
         ensures depth { λ _. ⌜ now (self .exit) .depth ≤ now (self .entry) .depth + 1 ⌝ }
@@ -114,7 +115,7 @@ impl Uses {
                 let arity = arity_of(symbol_named(signature, token.bytes));
                 if opened {
                     self.open(Frame {
-                        place: token.place,
+                        place: token.place as u16,
                         arity,
                         args: 1,
                     });
