@@ -1,0 +1,71 @@
+// Problem texts, formula by formula.
+use crate::texts::repeated;
+use grammar::reader::Reader;
+use refusal::Refusal;
+use refusal::RefusalDebug;
+use refusal::RefusalPartialEq;
+use std::test::*;
+
+// Whether the next formula stands at this place, and has these bytes.
+fn hands_out(reader: &mut Reader<'_>, place: usize, bytes: &[u8]) -> Result<bool, Refusal> {
+    match reader.next()? {
+        Some(part) => Ok(part.place == place && part.bytes == bytes),
+        None => Ok(false),
+    }
+}
+
+fn refuses(reader: &mut Reader<'_>) -> Option<Refusal> {
+    match reader.next() {
+        Ok(_) => None,
+        Err(e) => Some(e),
+    }
+}
+
+#[test]
+fn formulas() -> Result<(), Fail> {
+    let mut reader = Reader::over(
+        b"% one\ncnf(a,axiom,a=b). /* two */ cnf ( b,axiom,\nX=a) .\n% end",
+    )?;
+    check(hands_out(&mut reader, 6, b"cnf(a,axiom,a=b).")?)?;
+    check(hands_out(&mut reader, 34, b"cnf ( b,axiom,\nX=a) .")?)?;
+    check(reader.next()?.is_none())?;
+    check(reader.next()?.is_none())
+}
+
+#[test]
+fn no_formulas() -> Result<(), Fail> {
+    let mut reader = Reader::over(b"")?;
+    check(reader.next()?.is_none())?;
+    let mut reader = Reader::over(b" \t\r\n/* x */ % y")?;
+    check(reader.next()?.is_none())
+}
+
+// Broken behind a good formula: each text with the byte.
+static BROKEN: [(&[u8], usize); 4] = [
+    (
+        b"cnf(a,axiom,a=b).\ncnf(b,axiom,a(=b). cnf(c,axiom,a=b).",
+        32,
+    ),
+    (b"cnf(a,axiom,a=b).\ncnf(b,axiom  % x", 34),
+    (b"cnf(a,axiom,a=b). /* x", 18),
+    (b"cnf(a,axiom,a=b).. cnf(c,axiom,a=b).", 17),
+];
+
+#[test]
+fn stays() -> Result<(), Fail> {
+    for (text, byte) in &BROKEN {
+        let mut reader = Reader::over(text)?;
+        check(hands_out(&mut reader, 0, b"cnf(a,axiom,a=b).")?)?;
+        check_eq(refuses(&mut reader), Some(Refusal::Grammar(*byte)))?;
+        check_eq(refuses(&mut reader), Some(Refusal::Grammar(*byte)))?;
+    }
+    Ok(())
+}
+
+#[test]
+fn longest(rt: LibcRuntime) -> Result<(), Fail> {
+    let mut text = repeated(rt.alloc(), b"", b"%", 32_768, b"")?;
+    check(Reader::over(&text)?.next()?.is_none())?;
+    text.push(b'%')?;
+    check(matches!(Reader::over(&text), Err(Refusal::Limits)))
+}
