@@ -1,6 +1,5 @@
 // Texts against the grammar.
 use crate::texts::repeated;
-use crate::texts::towers;
 use grammar::check::check_formula;
 use refusal::Refusal;
 use refusal::RefusalDebug;
@@ -73,15 +72,16 @@ static BYTES: [(&[u8], usize); 23] = [
 ];
 
 // Tokens that cannot follow.
-static ORDER: [(&[u8], usize); 34] = [
+static ORDER: [(&[u8], usize); 35] = [
     (b"cn", 0),
     (b"cnfs(e,axiom,a=b).", 0),
     (b"Cnf(e,axiom,a=b).", 0),
     (b"fof(e,axiom,a=b).", 0),
     (b"(e,axiom,a=b).", 0),
-    (b"cnfe,axiom,a=b).", 3),
+    (b"cnfe,axiom,a=b).", 0),
+    (b"cnf e,axiom,a=b).", 4),
     (b"cnf(E,axiom,a=b).", 4),
-    (b"cnf(e axiom,a=b).", 5),
+    (b"cnf(e axiom,a=b).", 6),
     (b"cnf(e,Axiom,a=b).", 6),
     (b"cnf(e,axiom).", 11),
     (b"cnf(e,axiom,).", 12),
@@ -108,6 +108,27 @@ static ORDER: [(&[u8], usize); 34] = [
     (b"cnf(e,axiom,a=b).cnf(e,axiom,a=b).", 17),
     (b"cnf(e,axiom,a=b)..", 17),
     (b"cnf(e,axiom,a=b). /* x */ X", 26),
+];
+
+// A front, and a piece as many times behind it.
+static LONG: [(&[u8], &[u8], usize, Result<(), Refusal>); 7] = [
+    (b"cnf(e,axiom,a=b).", b" ", 32_751, Ok(())),
+    (b"cnf(e,axiom,a=b).", b" ", 32_752, Err(Refusal::Limits)),
+    (b"", b"(", 32_768, Err(Refusal::Grammar(0))),
+    (b"", b"(", 32_769, Err(Refusal::Limits)),
+    (b"cnf(e,axiom,", b"(", 32_756, Err(Refusal::Grammar(13))),
+    (
+        b"cnf(e,axiom,",
+        b"s(",
+        16_378,
+        Err(Refusal::Grammar(32_768)),
+    ),
+    (
+        b"cnf(e,axiom,a=b)./*",
+        b"*",
+        32_749,
+        Err(Refusal::Grammar(17)),
+    ),
 ];
 
 fn all_broken(table: &[(&[u8], usize)]) -> Result<(), Fail> {
@@ -140,24 +161,12 @@ fn order() -> Result<(), Fail> {
     all_broken(&ORDER)
 }
 
+// 32,768 bytes are read, and one more is refused, whatever the bytes are.
 #[test]
-fn longest(rt: LibcRuntime) -> Result<(), Fail> {
-    let mut text = repeated(rt.alloc(), b"cnf(e,axiom,a=b).", b" ", 32_751, b"")?;
-    check_eq(text.len(), 32_768)?;
-    check_eq(check_formula(&text), Ok(()))?;
-    text.push(b' ')?;
-    check_eq(check_formula(&text), Err(Refusal::Limits))?;
-    let broken = repeated(rt.alloc(), b"", b"(", 32_769, b"")?;
-    check_eq(check_formula(&broken), Err(Refusal::Limits))
-}
-
-#[test]
-fn deepest(rt: LibcRuntime) -> Result<(), Fail> {
-    let opened = repeated(rt.alloc(), b"cnf(e,axiom,", b"(", 32_756, b"")?;
-    check_eq(check_formula(&opened), Err(Refusal::Grammar(13)))?;
-    let nested = repeated(rt.alloc(), b"cnf(e,axiom,", b"s(", 16_378, b"")?;
-    check_eq(check_formula(&nested), Err(Refusal::Grammar(32_768)))?;
-    let formula = towers(rt.alloc(), 10_917, b"=", 0, b").")?;
-    check_eq(formula.len(), 32_768)?;
-    check_eq(check_formula(&formula), Ok(()))
+fn long_texts(rt: LibcRuntime) -> Result<(), Fail> {
+    for (front, piece, times, outcome) in &LONG {
+        let text = repeated(rt.alloc(), front, piece, *times, b"")?;
+        check_eq(check_formula(&text), *outcome)?;
+    }
+    Ok(())
 }

@@ -7,11 +7,15 @@ use refusal::RefusalPartialEq;
 use std::test::*;
 
 // Whether the next formula stands at this place, and has these bytes.
-fn hands_out(reader: &mut Reader<'_>, place: usize, bytes: &[u8]) -> Result<bool, Refusal> {
-    match reader.next()? {
-        Some(part) => Ok(part.place == place && part.bytes == bytes),
-        None => Ok(false),
+fn hands_out(reader: &mut Reader<'_>, place: usize, bytes: &[u8]) -> bool {
+    match reader.next() {
+        Ok(Some(part)) => part.place == place && part.bytes == bytes,
+        _ => false,
     }
+}
+
+fn is_at_end(reader: &mut Reader<'_>) -> bool {
+    matches!(reader.next(), Ok(None))
 }
 
 fn refuses(reader: &mut Reader<'_>) -> Option<Refusal> {
@@ -26,18 +30,21 @@ fn formulas() -> Result<(), Fail> {
     let mut reader = Reader::over(
         b"% one\ncnf(a,axiom,a=b). /* two */ cnf ( b,axiom,\nX=a) .\n% end",
     )?;
-    check(hands_out(&mut reader, 6, b"cnf(a,axiom,a=b).")?)?;
-    check(hands_out(&mut reader, 34, b"cnf ( b,axiom,\nX=a) .")?)?;
-    check(reader.next()?.is_none())?;
-    check(reader.next()?.is_none())
+    check(hands_out(&mut reader, 6, b"cnf(a,axiom,a=b)."))?;
+    check(hands_out(&mut reader, 34, b"cnf ( b,axiom,\nX=a) ."))?;
+    check(is_at_end(&mut reader))?;
+    check(is_at_end(&mut reader))
 }
+
+static EMPTY: [&[u8]; 3] = [b"", b"\t", b" \r\n/* x */ % y"];
 
 #[test]
 fn no_formulas() -> Result<(), Fail> {
-    let mut reader = Reader::over(b"")?;
-    check(reader.next()?.is_none())?;
-    let mut reader = Reader::over(b" \t\r\n/* x */ % y")?;
-    check(reader.next()?.is_none())
+    for text in &EMPTY {
+        let mut reader = Reader::over(text)?;
+        check(is_at_end(&mut reader))?;
+    }
+    Ok(())
 }
 
 // Broken behind a good formula: each text with the byte.
@@ -55,17 +62,21 @@ static BROKEN: [(&[u8], usize); 4] = [
 fn stays() -> Result<(), Fail> {
     for (text, byte) in &BROKEN {
         let mut reader = Reader::over(text)?;
-        check(hands_out(&mut reader, 0, b"cnf(a,axiom,a=b).")?)?;
+        check(hands_out(&mut reader, 0, b"cnf(a,axiom,a=b)."))?;
         check_eq(refuses(&mut reader), Some(Refusal::Grammar(*byte)))?;
         check_eq(refuses(&mut reader), Some(Refusal::Grammar(*byte)))?;
     }
     Ok(())
 }
 
+fn is_too_long(text: &[u8]) -> bool {
+    matches!(Reader::over(text), Err(Refusal::Limits))
+}
+
 #[test]
 fn longest(rt: LibcRuntime) -> Result<(), Fail> {
     let mut text = repeated(rt.alloc(), b"", b"%", 32_768, b"")?;
-    check(Reader::over(&text)?.next()?.is_none())?;
+    check(!is_too_long(&text))?;
     text.push(b'%')?;
-    check(matches!(Reader::over(&text), Err(Refusal::Limits)))
+    check(is_too_long(&text))
 }

@@ -24,13 +24,43 @@ static ROLES: [(&[u8], Role); 9] = [
     (b"", Role::Other),
 ];
 
-// The arguments' nodes behind the symbol f.
-fn is_pair(nodes: &[Node], first: Node, second: Node) -> bool {
-    let f = Node::App {
-        symbol: 4,
-        arity: 2,
-    };
-    nodes == [f, first, second]
+static FORMULAS: [(&[u8], Role, Sign); 6] = [
+    (b"cnf(e,axiom,f(a,b)=b).", Role::Axiom, Sign::Equal),
+    (
+        b"cnf(axiom,hypothesis,f(a,b)!=b).",
+        Role::Hypothesis,
+        Sign::Unequal,
+    ),
+    (
+        b"cnf(e,negated_conjecture,a!=b).",
+        Role::NegatedConjecture,
+        Sign::Unequal,
+    ),
+    (
+        b"cnf(axiom, /* axiom, */ plain,a=b).",
+        Role::Other,
+        Sign::Equal,
+    ),
+    (b"cnf(e,axiom,(a/* != */=b)).", Role::Axiom, Sign::Equal),
+    (b"cnf(e,axiom,(a% =\n!=b)).", Role::Axiom, Sign::Unequal),
+];
+
+const F: Node = Node::App {
+    symbol: 4,
+    arity: 2,
+};
+
+const ZERO: Node = Node::App {
+    symbol: 2,
+    arity: 0,
+};
+
+// Whether a formula has so many variables, and these nodes on its sides.
+fn reads_as(text: &[u8], variables: usize, left: &[Node], right: &[Node]) -> bool {
+    match read(text) {
+        Ok(e) => e.variables == variables && e.left.nodes() == left && e.right.nodes() == right,
+        Err(_) => false,
+    }
 }
 
 #[test]
@@ -42,47 +72,21 @@ fn words() -> Result<(), Fail> {
 }
 
 #[test]
-fn roles() -> Result<(), Fail> {
-    check_eq(read(b"cnf(e,axiom,a=b).")?.role, Role::Axiom)?;
-    check_eq(read(b"cnf(axiom,hypothesis,a=b).")?.role, Role::Hypothesis)?;
-    check_eq(
-        read(b"cnf(e,negated_conjecture,a=b).")?.role,
-        Role::NegatedConjecture,
-    )?;
-    check_eq(
-        read(b"cnf(axiom, /* axiom, */ plain,a=b).")?.role,
-        Role::Other,
-    )
+fn roles_and_signs() -> Result<(), Fail> {
+    for (text, role, sign) in &FORMULAS {
+        let e = read(text)?;
+        check_eq(e.role, *role)?;
+        check_eq(e.sign, *sign)?;
+    }
+    Ok(())
 }
 
 #[test]
-fn signs() -> Result<(), Fail> {
-    check_eq(read(b"cnf(e,axiom,f(a,b)=b).")?.sign, Sign::Equal)?;
-    check_eq(read(b"cnf(e,axiom,f(a,b)!=b).")?.sign, Sign::Unequal)?;
-    check_eq(read(b"cnf(e,axiom,(a/* != */=b)).")?.sign, Sign::Equal)?;
-    check_eq(read(b"cnf(e,axiom,(a% =\n!=b)).")?.sign, Sign::Unequal)
-}
-
-#[test]
-fn variables() -> Result<(), Fail> {
-    let e = read(b"cnf(e,axiom,f(Y,X)=f(X,Z)).")?;
-    check_eq(e.variables, 3)?;
-    check(is_pair(e.left.nodes(), Node::Var(0), Node::Var(1)))?;
-    check(is_pair(e.right.nodes(), Node::Var(1), Node::Var(2)))?;
-    let e = read(b"cnf(e,axiom,(f(X,XX)!=f(XX,X1))).")?;
-    check_eq(e.variables, 3)?;
-    check(is_pair(e.left.nodes(), Node::Var(0), Node::Var(1)))?;
-    check(is_pair(e.right.nodes(), Node::Var(1), Node::Var(2)))
-}
-
-#[test]
-fn symbols() -> Result<(), Fail> {
-    let zero = Node::App {
-        symbol: 2,
-        arity: 0,
-    };
-    let e = read(b"% x\r\n\tcnf(e,axiom,\tf(zero, /* b */ X)\r\n= % Y\r Z\n\tzero).")?;
-    check_eq(e.variables, 1)?;
-    check(is_pair(e.left.nodes(), zero, Node::Var(0)))?;
-    check(e.right.nodes() == [zero])
+fn nodes() -> Result<(), Fail> {
+    let left = [F, Node::Var(0), Node::Var(1)];
+    let right = [F, Node::Var(1), Node::Var(2)];
+    check(reads_as(b"cnf(e,axiom,f(Y,X)=f(X,Z)).", 3, &left, &right))?;
+    check(reads_as(b"cnf(e,axiom,(f(X,XX)!=f(XX,X1))).", 3, &left, &right))?;
+    let text = b"% x\r\n\tcnf(e,axiom,\tf(zero, /* b */ X)\r\n= % Y\r Z\n\tzero).";
+    check(reads_as(text, 1, &[F, ZERO, Node::Var(0)], &[ZERO]))
 }

@@ -73,16 +73,23 @@ fn full_sides(rt: LibcRuntime) -> Result<(), Fail> {
     check_eq(e.variables, 0)
 }
 
+// A tower, what stands between, another tower, the rest. A symbol that is misused anywhere goes before any size.
+static TOWERS: [(usize, &[u8], usize, &[u8], Refusal); 8] = [
+    (32, b"=", 32, b").", Refusal::Size(76)),
+    (31, b"=", 32, b").", Refusal::Size(171)),
+    (0, b"=f(", 32, b",X)).", Refusal::Size(78)),
+    (10_917, b"=", 0, b").", Refusal::Size(76)),
+    (10_917, b"=", 0, b"). ", Refusal::Limits),
+    (32, b"=f(c,", 0, b")).", Refusal::Symbol(112)),
+    (0, b"=f(", 32, b",s)).", Refusal::Symbol(114)),
+    (0, b"=f(", 32, b")).", Refusal::Symbol(14)),
+];
+
 #[test]
 fn too_high(rt: LibcRuntime) -> Result<(), Fail> {
-    let left = towers(rt.alloc(), 32, b"=", 32, b").")?;
-    check_eq(refused(&left), Some(Refusal::Size(76)))?;
-    let right = towers(rt.alloc(), 31, b"=", 32, b").")?;
-    check_eq(refused(&right), Some(Refusal::Size(171)))?;
-    let within = towers(rt.alloc(), 0, b"=f(", 32, b",X)).")?;
-    check_eq(refused(&within), Some(Refusal::Size(78)))?;
-    let longest = towers(rt.alloc(), 10_917, b"=", 0, b").")?;
-    check_eq(refused(&longest), Some(Refusal::Size(76)))?;
-    let longer = towers(rt.alloc(), 10_917, b"=", 0, b"). ")?;
-    check_eq(refused(&longer), Some(Refusal::Limits))
+    for (left, between, right, back, refusal) in &TOWERS {
+        let text = towers(rt.alloc(), *left, between, *right, back)?;
+        check_eq(refused(&text), Some(*refusal))?;
+    }
+    Ok(())
 }

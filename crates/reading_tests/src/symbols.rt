@@ -1,7 +1,6 @@
 // Texts with symbols that the signature does not have, or has with another arity.
 use crate::texts::refused;
 use crate::texts::repeated;
-use crate::texts::towers;
 use refusal::Refusal;
 use refusal::RefusalDebug;
 use refusal::RefusalPartialEq;
@@ -61,22 +60,18 @@ fn misused() -> Result<(), Fail> {
 }
 
 // 260 arguments are not 4, and an unknown symbol has no arity.
+static WIDE: [(&[u8], usize); 2] = [(b"cnf(e,axiom,h(X", 259), (b"cnf(e,axiom,c(X", 254)];
+
 #[test]
-fn many_arguments(rt: LibcRuntime) -> Result<(), Fail> {
-    let wide = repeated(rt.alloc(), b"cnf(e,axiom,h(X", b",X", 259, b")=a).")?;
-    check_eq(refused(&wide), Some(Refusal::Symbol(12)))?;
-    let unknown = repeated(rt.alloc(), b"cnf(e,axiom,c(X", b",X", 254, b")=a).")?;
-    check_eq(refused(&unknown), Some(Refusal::Symbol(12)))
+fn wide(rt: LibcRuntime) -> Result<(), Fail> {
+    for (front, times) in &WIDE {
+        let text = repeated(rt.alloc(), front, b",X", *times, b")=a).")?;
+        check_eq(refused(&text), Some(Refusal::Symbol(12)))?;
+    }
+    Ok(())
 }
 
-// A broken grammar goes before a wrong symbol, and that before a side too large.
 #[test]
-fn precede_sizes(rt: LibcRuntime) -> Result<(), Fail> {
-    check_eq(refused(b"cnf(e,axiom,c=a)"), Some(Refusal::Grammar(16)))?;
-    let right = towers(rt.alloc(), 32, b"=f(c,", 0, b")).")?;
-    check_eq(refused(&right), Some(Refusal::Symbol(112)))?;
-    let behind = towers(rt.alloc(), 0, b"=f(", 32, b",s)).")?;
-    check_eq(refused(&behind), Some(Refusal::Symbol(114)))?;
-    let around = towers(rt.alloc(), 0, b"=f(", 32, b")).")?;
-    check_eq(refused(&around), Some(Refusal::Symbol(14)))
+fn grammar_first() -> Result<(), Fail> {
+    check_eq(refused(b"cnf(e,axiom,c=a)"), Some(Refusal::Grammar(16)))
 }
