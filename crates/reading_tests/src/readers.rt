@@ -1,15 +1,18 @@
 // Problem texts, formula by formula.
 use crate::texts::repeated;
+use grammar::check::check_formula;
 use grammar::reader::Reader;
 use refusal::Refusal;
 use refusal::RefusalDebug;
 use refusal::RefusalPartialEq;
 use std::test::*;
 
-// Whether the next formula stands at this place, and has these bytes.
+// Whether the next formula stands at this place, has these bytes, and is a formula when it stands alone.
 fn hands_out(reader: &mut Reader<'_>, place: usize, bytes: &[u8]) -> bool {
     match reader.next() {
-        Ok(Some(part)) => part.place == place && part.bytes == bytes,
+        Ok(Some(part)) => {
+            part.place == place && part.bytes == bytes && check_formula(part.bytes).is_ok()
+        }
         _ => false,
     }
 }
