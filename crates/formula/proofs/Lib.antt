@@ -1,5 +1,4 @@
 pub mod Named
-pub mod Stacking
 pub mod Tables
 pub mod Lowest
 pub mod Scanning

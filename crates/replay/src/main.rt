@@ -4,8 +4,12 @@ ghost use mathlib.Core.List.{List};
 ghost use Rattle.std.specs.declared.result.Result.{Result as Either};
 ghost use Rattle.refusal.specs.declared.Refusal.{Refusal as Why};
 ghost use Rattle.signature.specs.Texts.{Line, Read};
-ghost use Rattle.replay.specs.Replies.{answer-of};
+ghost use Rattle.std.specs.Vec.{made};
+ghost use Rattle.std.specs.Of.Vec.{vec-items};
+ghost use Rattle.replay.specs.Replies.{answer-of, Answers};
 use fields::Field;
+use grammar::part::Part;
+use grammar::reader::Reader;
 use script::answer::Answer;
 use script::answer::AnswerDisplay;
 use script::call::Call;
@@ -13,6 +17,8 @@ use script::call::Fault;
 use script::line::first_line;
 use script::line::parse;
 use signature::signature::Signature;
+use std::alloc::AllocError;
+use std::alloc::Global;
 use std::io;
 use std::io::Read;
 
@@ -48,7 +54,41 @@ fn signature_answer(text: &[u8]) -> Answer
     }
 }
 
-// The parts of a problem text are not read yet.
-fn read_problem(rt: &LibcRuntime, _text: &[u8]) -> io::Result<()> {
-    rt.println(Answer::Error)
+// The parts of a problem text, and why there are no more.
+fn read_answers(heap: Global, text: &[u8]) -> Result<Vec<Answer>, AllocError>
+    ensures { λ r. ⌜ made r (λ v. Answers (now (text .entry)) (vec-items v)) ⌝ }
+{
+    let mut answers = Vec::new(heap);
+    let mut reader = match Reader::over(text) {
+        Ok(reader) => reader,
+        Err(refusal) => {
+            answers.push(Answer::Refused(refusal))?;
+            return Ok(answers);
+        }
+    };
+    loop {
+        let step = match reader.next() {
+            Ok(step) => step,
+            Err(refusal) => {
+                answers.push(Answer::Refused(refusal))?;
+                return Ok(answers);
+            }
+        };
+        let Some(part) = step else {
+            answers.push(Answer::Nothing)?;
+            return Ok(answers);
+        };
+        answers.push(Answer::Formula {
+            place: part.place,
+            len: part.bytes.len(),
+        })?;
+    }
+}
+
+fn read_problem(rt: &LibcRuntime, text: &[u8]) -> io::Result<()> {
+    let answers = read_answers(rt.alloc(), text)?;
+    for answer in answers.iter() {
+        rt.println(answer)?;
+    }
+    Ok(())
 }

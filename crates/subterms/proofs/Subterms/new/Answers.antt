@@ -22,8 +22,8 @@ loop-p-again c =
     let within : length row ≤ 32 = omega (arith, ap length (c .nodes-row .ensures), pattern-short (c .args .pattern .now)) in
     let room : p < length (c .loop-p .nodes) = omega (arith, within) in
     let room-ends : p < length (c .loop-p .ends) = omega (arith, within) in (
-      length-set (c .loop-p .nodes) p x ∙ c .loop-p .inv .0,
-      length-set (c .loop-p .ends) p (c .end .result) ∙ c .loop-p .inv .1,
+      length-set (c .loop-p .nodes) p _ ∙ c .loop-p .inv .0,
+      length-set (c .loop-p .ends) p _ ∙ c .loop-p .inv .1,
       take-more-set (c .loop-p .nodes) p x room ∙ ap (λ (xs : List Node). xs ++ x ∷ []) (c .loop-p .inv .2) ∙ sym (take-more row p (Var 0) (c .loop-p-test .taken)),
       below-more _ _ (λ k h. let ne : k ≢ p = omega arith in getD-set-other (c .loop-p .ends) p k (c .end .result) 0 ne ∙ c .loop-p .inv .3 k h)
           (getD-set-same (c .loop-p .ends) p (c .end .result) 0 room-ends ∙ c .end .ensures),

@@ -2,7 +2,7 @@ use mathlib.Core.Path.{refl}
 use Prim.Native.Nat.{_<_}
 use lib.ListN.{length}
 use native.Mathlib.Omega.{arith}
-use Rattle.formula.proofs.Stacking.{pushed}
+use Rattle.lent_list.proofs.Stacks.{pushed}
 use Rattle.formula.proofs.uses.Uses.open.Needs as need
 
 pub returns : need.returns

@@ -11,7 +11,7 @@ loop-q-again c =
     let p = c .args .p in
     let q = c .loop-q .q - 1 in
     let inv = c .loop-q .inv in (
-      length-set (c .loop-q .seen) (32 * p + q) (c .compare .result) ∙ inv .0,
+      length-set (c .loop-q .seen) _ _ ∙ inv .0,
       omega (arith, inv .1),
       seen-more b (c .loop-q .seen) p q (c .compare .result) (c .pre .1 .0) (omega (arith, inv .1, c .loop-q-test .taken)) (inv .0) (λ i j hi hj l. inv .2 i j hi hj (omega (arith, c .loop-q-test .taken))) (c .compare .ensures),
     )
