@@ -13,18 +13,23 @@ use Rattle.refusal.specs.declared.Refusal.the-variants.{Grammar}
 use Rattle.lexer.specs.Tokens.{Lexeme, tokens-from}
 use Rattle.grammar.specs.Machine.{walk, is-done}
 use Rattle.grammar.specs.Fits.{Complete, Misfit}
-use Rattle.grammar.specs.Outcomes.{Handed, none, misfit, part, end-behind}
+use Rattle.grammar.specs.Outcomes.{Handed, none, misfit, part, end-behind, NoFormula}
 use Rattle.grammar.specs.declared.machine.State.the-variants as state
 use Rattle.grammar.specs.declared.part.Part.{Part}
 use Rattle.grammar.proofs.Steps.{run, some-same}
 use Rattle.grammar.proofs.Prefixes.{run-complete}
-use Rattle.grammar.proofs.Walks.{walk-misfit, walk-front}
+use Rattle.grammar.proofs.Walks.{walk-misfit, walk-front, none-whole}
 
-pub refuses : (text : List ℕ) (at place p : ℕ) (r : Result (Option Part) Refusal) → tokens-from (drop at text) at ≡ tokens-from (drop place text) place → walk state.Start place (tokens-from (drop place text) place) (length text) ≡ Err p → r ≡ Err (Grammar p) → Handed text at r at
-refuses text at place p r same h is =
+nothing-first : {t : Lexeme} {ts : List Lexeme} → [] ≡ t ∷ ts → ⊥
+nothing-first e = let z : _≡_ {A = ℕ} 0 1 = cc in omega arith
+
+pub refuses : (text : List ℕ) (at place p : ℕ) (first : Lexeme) (behind : List Lexeme) (r : Result (Option Part) Refusal) → tokens-from (drop at text) at ≡ first ∷ behind → tokens-from (drop at text) at ≡ tokens-from (drop place text) place → walk state.Start place (tokens-from (drop place text) place) (length text) ≡ Err p → r ≡ Err (Grammar p) → Handed text at r at
+refuses text at place p first behind r some same h is =
     let P : List Lexeme → Type 0 = λ ts. Misfit ts (length text) p in
+    let N : List Lexeme → Type 0 = NoFormula in
     let Q : Result (Option Part) Refusal → Type 0 = λ x. Handed text at x at in
-    subst Q (sym is) (misfit (subst P (sym same) (walk-misfit place (tokens-from (drop place text) place) (length text) p h)))
+    let ts = tokens-from (drop place text) place in
+    subst Q (sym is) (misfit (λ none. nothing-first (sym none ∙ some)) (subst N (sym same) (none-whole place ts (length text) p h)) (subst P (sym same) (walk-misfit place ts (length text) p h)))
 
 head-same : {t u : Lexeme} {ts us : List Lexeme} → t ∷ ts ≡ u ∷ us → t ≡ u
 head-same e = cc

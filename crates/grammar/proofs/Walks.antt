@@ -20,7 +20,7 @@ use Rattle.lexer.specs.declared.token.Kind.the-variants.{Word, Variable, Open, 
 use Rattle.grammar.specs.Kinds.{same-kind}
 use Rattle.grammar.specs.Machine.{next, is-done, depth-of, walk, expect, term-start, inside, outside, behind, spot}
 use Rattle.grammar.specs.Fits.{Complete, Begins, Misfit, at-token, at-end}
-use Rattle.grammar.specs.Outcomes.{end-behind}
+use Rattle.grammar.specs.Outcomes.{end-behind, NoFormula}
 use Rattle.grammar.specs.declared.machine.Spot.{Spot}
 use Rattle.grammar.specs.declared.machine.State.{State}
 use Rattle.grammar.specs.declared.machine.State.the-variants as state
@@ -167,3 +167,27 @@ whole e ts len end h =
 
 pub front-complete : (e : ℕ) (ts : List Lexeme) (end : ℕ) (rest : List Lexeme) (f : Front state.Start e ts end rest) → Complete (f .front)
 front-complete e ts end rest f = run-complete (f .front) (f .runs)
+
+-- tokens that begin with a whole formula do not make the walk fail
+past-step : (q : State) (t : Lexeme) (ts : List Lexeme) (o : Option State) → next q t ≡ o → bind o (λ p. run p ts) ≡ Some state.Done → is-done q ≡ false
+past-step q t ts None e h = none-some h
+past-step q t ts (Some p) e h = by (cases-bool (is-done q))
+  where
+    by : (is-done q ≡ true) ⊎ (is-done q ≡ false) → is-done q ≡ false
+    by (inl d) = none-some (sym (ap (λ r. next r t) (done-only q d)) ∙ e)
+    by (inr d) = d
+
+walk-past : (q : State) (e : ℕ) (front rest : List Lexeme) (len : ℕ) → run q front ≡ Some state.Done → (end : ℕ) × (walk q e (front ++ rest) len ≡ Ok (end, rest))
+walk-past q e [] rest len h = (e, walk-done q e rest len (ap is-done (some-same h)))
+walk-past q e (t ∷ front) rest len h = by (next q t) refl (λ p k. walk-past p (end-of t) front rest len k)
+  where
+    by : (o : Option State) → next q t ≡ o → ((p : State) → run p front ≡ Some state.Done → (end : ℕ) × (walk p (end-of t) (front ++ rest) len ≡ Ok (end, rest))) → (end : ℕ) × (walk q e (t ∷ (front ++ rest)) len ≡ Ok (end, rest))
+    by None is ih = none-some (sym (ap (λ o. bind o (λ p. run p front)) is) ∙ h)
+    by (Some p) is ih =
+        let r = ih p (sym (ap (λ o. bind o (λ s. run s front)) is) ∙ h) in
+        (r .0, walk-more q p e t (t ∷ (front ++ rest)) (front ++ rest) len (past-step q t front (next q t) refl h) is refl ∙ r .1)
+
+pub none-whole : (e : ℕ) (ts : List Lexeme) (len p : ℕ) → walk state.Start e ts len ≡ Err p → NoFormula ts
+none-whole e ts len p h front rest is c =
+    let w = walk-past state.Start e front rest len (complete-run front c) in
+    ok-err (sym (w .1) ∙ ap (λ us. walk state.Start e us len) (sym is) ∙ h)

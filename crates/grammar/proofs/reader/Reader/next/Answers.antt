@@ -12,7 +12,7 @@ returns-in-rest c = record { same = refl; handed = none (c .in-rest .ensures tt)
 pub returns-in-Break-end : need.returns-in-Break-end
 returns-in-Break-end c =
     let p = err-from-errBy (c .from-residual .result) (c .from-residual .ensures .1) in
-    record { same = refl; handed = refuses _ _ (c .in-Some .first .place) _ (c .from-residual .result) (c .in-Some .ensures tt .4) (c .in-Break-end .ensures tt) (rw (p .1, p .2)) }
+    record { same = refl; handed = refuses _ _ (c .in-Some .first .place) _ (lexeme-of (c .in-Some .first)) _ (c .from-residual .result) (c .in-Some .ensures tt .0) (c .in-Some .ensures tt .4) (c .in-Break-end .ensures tt) (rw (p .1, p .2)) }
 
 pub part-result-count : need.part-result-count
 part-result-count c = c .in-Continue-end .ensures tt .1
