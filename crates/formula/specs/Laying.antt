@@ -19,7 +19,7 @@ nodes-in s = take (s .len) (s .nodes)
 -- one node more, if there is room
 abbrev pub Pushed : List Node → List Node → Node → ℕ → Result (Unit {0}) TooLarge → Type 0
 Pushed before after n place (Ok u) = (length before < 32) × (after ≡ before ++ n ∷ [])
-Pushed before after n place (Err e) = (32 ≤ length before) × (e .place ≡ place)
+Pushed before after n place (Err e) = (32 ≤ length before) × (e .place ≡ place) × (after ≡ before)
 
 abbrev pub LaidOut : Signature → List ℕ → ℕ → Variables → Variables → Result (Side × ℕ) TooLarge → Type 0
 LaidOut s text at before after (Ok p) = row-of s (names-in text before) [] (tokens-from (drop at text) at) ≡ Ok (record { variables = names-in text after; nodes = nodes-in (p .0); rest = tokens-from (drop (p .1) text) (p .1) })

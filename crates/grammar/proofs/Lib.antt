@@ -6,3 +6,4 @@ pub mod Prefixes
 pub mod Walks
 pub mod Handing
 pub mod Unique
+pub mod Alone

@@ -37,11 +37,13 @@ pub data Checked (text : List ℕ) : Result (Unit {0}) Refusal → Type 0 where
 abbrev pub NoFormula : List Lexeme → Type 0
 NoFormula ts = (front rest : List Lexeme) → ts ≡ front ++ rest → Complete front → ⊥
 
--- the next formula of a problem text, from the place `at` on, and the place from which the next call goes on
+-- the next formula of a problem text, from the place `at` on, and the place from which the next call goes on; a part that is handed out is
+-- one formula alone, too
 pub data Handed (text : List ℕ) (at : ℕ) : Result (Option Part) Refusal → ℕ → Type 0 where
   none : tokens-from (drop at text) at ≡ [] → Handed text at (Ok None) at
   misfit : {p : ℕ} → (tokens-from (drop at text) at ≡ [] → ⊥) → NoFormula (tokens-from (drop at text) at) → Misfit (tokens-from (drop at text) at) (length text) p → Handed text at (Err (Grammar p)) at
   part : {x : Part} {after : ℕ} (cnf : Lexeme) (front : List Lexeme) →
       tokens-from (drop at text) at ≡ (cnf ∷ front) ++ tokens-from (drop after text) after → Complete (cnf ∷ front) →
       x .place ≡ cnf .place → after ≡ end-behind at (cnf ∷ front) → x .bytes .now ≡ take (after - x .place) (drop (x .place) text) →
+      Complete (tokens (x .bytes .now)) →
       Handed text at (Ok (Some x)) after

@@ -1,2 +1,3 @@
 pub mod Heads
 pub mod Lexing
+pub mod Cuts

@@ -21,4 +21,4 @@ pub part-result-start : need.part-result-start
 part-result-start c = c .in-Continue-end .ensures tt .1
 
 pub returns : need.returns
-returns c = record { same = refl; handed = hands _ _ (lexeme-of (c .in-Some .first)) _ (c .in-Continue-end .end) _ (c .in-Some .ensures tt .0) (c .in-Some .ensures tt .4) (c .in-Continue-end .ensures tt .0) refl refl }
+returns c = record { same = refl; handed = hands _ _ (lexeme-of (c .in-Some .first)) _ (c .in-Continue-end .end) _ (c .in-Some .ensures tt .0) (c .in-Some .ensures tt .4) (c .in-Continue-end .ensures tt .0) (c .in-Continue-end .ensures tt .1) refl refl }
