@@ -9,7 +9,6 @@ use std::io;
 
 mod report;
 mod shown;
-mod sides;
 mod words;
 
 static USAGE: &str = "usage: dodgelaurel SIGNATURE [PROBLEM]\n\

@@ -5,6 +5,9 @@ ghost use lib.ListN.{length};
 ghost use Rattle.std.specs.Options.{Cases as BySome};
 ghost use Rattle.places.specs.Lines.{feeds, Starts, Ends, Placed};
 
+#[cfg(test)]
+mod tests;
+
 // Lines and columns are counted from 1. The line's bytes go from `start` up to `end`, without its line feed.
 #[derive(Clone, Copy)]
 pub struct Place {

@@ -1,0 +1,30 @@
+use crate::place_of;
+use std::test::*;
+
+// Places in "ab\n\ncd", each with its line, its column and the bounds of its line.
+static PLACES: [(usize, usize, usize, usize, usize); 7] = [
+    (0, 1, 1, 0, 2),
+    (1, 1, 2, 0, 2),
+    (2, 1, 3, 0, 2),
+    (3, 2, 1, 3, 3),
+    (4, 3, 1, 4, 6),
+    (5, 3, 2, 4, 6),
+    (6, 3, 3, 4, 6),
+];
+
+#[test]
+fn lines_and_columns() -> Result<(), Fail> {
+    for row in PLACES {
+        let (byte, line, column, start, end) = row;
+        match place_of(b"ab\n\ncd", byte) {
+            Some(place) => {
+                check_eq(place.line, line)?;
+                check_eq(place.column, column)?;
+                check_eq(place.start, start)?;
+                check_eq(place.end, end)?;
+            }
+            None => check(false)?,
+        }
+    }
+    check(place_of(b"ab\n\ncd", 7).is_none())
+}
