@@ -1,6 +1,6 @@
 // Reads a signature and a problem, and says what it has read.
+use crate::report::print_bad_signature;
 use crate::report::print_problem;
-use crate::report::print_refusal;
 use crate::report::print_signature;
 use signature::signature::Signature;
 use std::env;
@@ -27,7 +27,7 @@ fn main(rt: LibcRuntime) -> io::Result<()> {
     println!(rt, "Signature {signature_path}")?;
     let signature = match Signature::read(text.as_slice()) {
         Ok(signature) => signature,
-        Err(refusal) => return print_refusal(&rt, refusal),
+        Err(refusal) => return print_bad_signature(&rt, text.as_slice(), refusal),
     };
     print_signature(&rt, &signature)?;
     let Some(problem_path) = args.next() else {

@@ -1,3 +1,4 @@
+use crate::line_place;
 use crate::place_of;
 use std::test::*;
 
@@ -27,4 +28,17 @@ fn lines_and_columns() -> Result<(), Fail> {
         }
     }
     check(place_of(b"ab\n\ncd", 7).is_none())
+}
+
+#[test]
+fn lines_by_number() -> Result<(), Fail> {
+    check(line_place(b"ab\n\ncd", 0).is_none())?;
+    check(line_place(b"ab\n\ncd", 4).is_none())?;
+    match line_place(b"ab\n\ncd", 3) {
+        Some(place) => {
+            check_eq(place.start, 4)?;
+            check_eq(place.end, 6)
+        }
+        None => check(false),
+    }
 }
