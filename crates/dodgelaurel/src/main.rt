@@ -1,6 +1,6 @@
 // Reads a signature and a problem, and says what it has read.
+use crate::report::print_bad_signature;
 use crate::report::print_problem;
-use crate::report::print_refusal;
 use crate::report::print_signature;
 use signature::signature::Signature;
 use std::env;
@@ -9,7 +9,6 @@ use std::io;
 
 mod report;
 mod shown;
-mod sides;
 mod words;
 
 static USAGE: &str = "usage: dodgelaurel SIGNATURE [PROBLEM]\n\
@@ -28,7 +27,7 @@ fn main(rt: LibcRuntime) -> io::Result<()> {
     println!(rt, "Signature {signature_path}")?;
     let signature = match Signature::read(text.as_slice()) {
         Ok(signature) => signature,
-        Err(refusal) => return print_refusal(&rt, refusal),
+        Err(refusal) => return print_bad_signature(&rt, text.as_slice(), refusal),
     };
     print_signature(&rt, &signature)?;
     let Some(problem_path) = args.next() else {

@@ -3,9 +3,6 @@ use crate::shown::Marked;
 use crate::shown::MarkedDisplay;
 use crate::shown::Shown;
 use crate::shown::ShownDisplay;
-use crate::sides::Fault;
-use crate::sides::higher_sides;
-use crate::sides::write_sides;
 use crate::words::role_word;
 use crate::words::side_words;
 use crate::words::sign_word;
@@ -13,9 +10,13 @@ use formula::equation::Equation;
 use formula::reading::read_formula;
 use grammar::part::Part;
 use grammar::reader::Reader;
+use places::line_place;
 use places::place_of;
 use refusal::Refusal;
 use refusal::RefusalDisplay;
+use sides::Fault;
+use sides::higher_sides;
+use sides::write_sides;
 use signature::signature::Signature;
 use std::io;
 
@@ -130,15 +131,27 @@ fn print_higher(rt: &LibcRuntime, signature: &Signature, equation: &Equation) ->
     )
 }
 
-// A refusal without a place in a problem text; the one of a signature has its line.
-pub fn print_refusal(rt: &LibcRuntime, refusal: Refusal) -> io::Result<()> {
+fn print_refusal(rt: &LibcRuntime, refusal: Refusal) -> io::Result<()> {
     let number = refusal.number();
-    match refusal {
-        Refusal::SignatureLine(line) => {
-            println!(rt, "  refused {number} at line {line}: {refusal}")
-        }
-        _ => println!(rt, "  refused {number}: {refusal}"),
-    }
+    println!(rt, "  refused {number}: {refusal}")
+}
+
+// The refusal of a signature, with the line that it names.
+pub fn print_bad_signature(rt: &LibcRuntime, text: &[u8], refusal: Refusal) -> io::Result<()> {
+    let Some(line) = refusal.place() else {
+        return print_refusal(rt, refusal);
+    };
+    let number = refusal.number();
+    println!(rt, "  refused {number} at line {line}: {refusal}")?;
+    let Some(place) = line_place(text, line) else {
+        return Ok(());
+    };
+    let from = place.start;
+    let to = place.end;
+    let row = Shown {
+        bytes: &text[from..to],
+    };
+    println!(rt, "    | {row}")
 }
 
 // A refusal of what begins at `start` of the text, with its line and a mark under the byte.

@@ -36,3 +36,8 @@ pub record Placed (text : List ℕ) (byte : ℕ) (p : Place) : Type 0 where
   pub column : p .column ≡ byte - p .start + 1
   pub starts : Starts text byte (p .start)
   pub ends : Ends text byte (p .end)
+
+pub record OnLine (text : List ℕ) (line : ℕ) (p : Place) : Type 0 where
+  pub byte : ℕ
+  pub placed : Placed text byte p
+  pub same : p .line ≡ line

@@ -1,9 +1,13 @@
 // The line and the column of a byte of a text.
 ghost use mathlib.Core.Path.{_≡_};
-ghost use Prim.Native.Nat.{_≤_, _<_};
+ghost use mathlib.Core.Logic.{_⊎_};
+ghost use Prim.Native.Nat.{_+_, _≤_, _<_};
 ghost use lib.ListN.{length};
 ghost use Rattle.std.specs.Options.{Cases as BySome};
-ghost use Rattle.places.specs.Lines.{feeds, Starts, Ends, Placed};
+ghost use Rattle.places.specs.Lines.{feeds, Starts, Ends, Placed, OnLine};
+
+#[cfg(test)]
+mod tests;
 
 // Lines and columns are counted from 1. The line's bytes go from `start` up to `end`, without its line feed.
 #[derive(Clone, Copy)]
@@ -28,6 +32,27 @@ pub fn place_of(text: &[u8], byte: usize) -> Option<Place>
         start,
         end: line_end(text, byte),
     })
+}
+
+// A place on the line of this number.
+pub fn line_place(text: &[u8], line: usize) -> Option<Place>
+    ensures { λ r. ⌜ BySome r ((line ≡ 0) ⊎ (1 + feeds (now (text .entry)) < line)) (λ p. OnLine (now (text .entry)) line p) ⌝ }
+{
+    if line == 0 {
+        return None;
+    }
+    let mut at = 0;
+    let mut n = 1;
+    while n < line {
+        if at == text.len() {
+            return None;
+        }
+        if text[at] == b'\n' {
+            n += 1;
+        }
+        at += 1;
+    }
+    place_of(text, at)
 }
 
 fn count_feeds(text: &[u8]) -> usize

@@ -1,4 +1,14 @@
 // The two sides of a formula: written back from a bank, and compared.
+ghost use mathlib.Core.Path.{_≡_};
+ghost use mathlib.Core.Bool.{true, false};
+ghost use Rattle.std.specs.Options.{Cases as BySome};
+ghost use Rattle.std.specs.Results.{Cases};
+ghost use Rattle.std.specs.Of.Vec.{vec-items};
+ghost use Rattle.terms.specs.Patterns.{term-of};
+ghost use Rattle.signature.specs.Signatures.{names-of};
+ghost use Rattle.signature.specs.Written.{written};
+ghost use Rattle.sides.specs.declared.Fault.the-variants.{Refused, NoMemory};
+ghost use Rattle.sides.specs.Rules.{rule, Compared, Texts};
 use bank::cell::Cell;
 use enter::enter;
 use formula::equation::Equation;
@@ -33,12 +43,16 @@ pub enum Fault {
 }
 
 pub impl From<Refusal> for Fault as FaultFromRefusal {
+    ghost converts = { λ e r. r ≡ Refused e };
+
     fn from(refusal: Refusal) -> Fault {
         Fault::Refused(refusal)
     }
 }
 
 pub impl From<AllocError> for Fault as FaultFromAlloc {
+    ghost converts = { λ _ r. r ≡ NoMemory };
+
     fn from(_error: AllocError) -> Fault {
         Fault::NoMemory
     }
@@ -52,11 +66,10 @@ pub struct Sides {
     pub cells: usize,
 }
 
-pub fn write_sides(
-    heap: Global,
-    signature: &Signature,
-    equation: &Equation,
-) -> Result<Sides, Fault> {
+// Both sides, entered into a bank and written from there: the text of each is that of its term.
+pub fn write_sides(heap: Global, signature: &Signature, equation: &Equation) -> Result<Sides, Fault>
+    ensures { λ r. ⌜ Cases r (λ s. Texts (now (signature .entry)) (now (equation .entry)) s) (λ _. Unit {0}) ⌝ }
+{
     let mut cells = vec![in heap; Cell::Var(0); BANK]?;
     let mut count = Count { len: 0 };
     let left = write_side(
@@ -87,7 +100,9 @@ fn write_side(
     side: &Pattern,
     cells: &mut [Cell],
     count: &mut Count,
-) -> Result<Vec<u8>, Fault> {
+) -> Result<Vec<u8>, Fault>
+    ensures { λ r. ⌜ Cases r (λ v. vec-items v ≡ written (names-of (now (signature .entry))) (term-of (now (side .entry)))) (λ _. Unit {0}) ⌝ }
+{
     let cell = enter(signature, side, cells, count)?;
     let mut text = vec![in heap; 0; LONGEST]?;
     let len = write_term(signature, cells, count, cell, text.as_mut_slice())?;
@@ -103,7 +118,9 @@ pub struct Higher {
 }
 
 // Which side is higher, of an equation that may become a rewrite rule.
-pub fn higher_sides(signature: &Signature, equation: &Equation) -> Option<Higher> {
+pub fn higher_sides(signature: &Signature, equation: &Equation) -> Option<Higher>
+    ensures { λ r. ⌜ BySome r (rule (now (equation .entry) .role) (now (equation .entry) .sign) ≡ false) (λ h. (rule (now (equation .entry) .role) (now (equation .entry) .sign) ≡ true) × Compared (now (signature .entry)) (now (equation .entry)) h) ⌝ }
+{
     if !is_rule(equation.role, equation.sign) {
         return None;
     }
@@ -119,7 +136,9 @@ pub fn higher_sides(signature: &Signature, equation: &Equation) -> Option<Higher
 }
 
 // Axioms and hypotheses with = are rules; others are goals.
-fn is_rule(role: Role, sign: Sign) -> bool {
+fn is_rule(role: Role, sign: Sign) -> bool
+    ensures { λ r. ⌜ r ≡ rule role sign ⌝ }
+{
     match (role, sign) {
         (Role::Axiom | Role::Hypothesis, Sign::Equal) => true,
         _ => false,
