@@ -7,13 +7,13 @@ use crate::words::role_word;
 use crate::words::side_words;
 use crate::words::sign_word;
 use formula::equation::Equation;
-use formula::reading::read_formula;
 use grammar::part::Part;
 use grammar::reader::Reader;
 use places::line_place;
 use places::place_of;
 use refusal::Refusal;
 use refusal::RefusalDisplay;
+use round_trip::read;
 use sides::Fault;
 use sides::higher_sides;
 use sides::write_sides;
@@ -84,7 +84,7 @@ fn print_part(
         let column = place.column;
         print!(rt, "{line}:{column} (byte {byte}): ")?;
     }
-    match read_formula(signature, part.bytes) {
+    match read(signature, part.bytes) {
         Ok(equation) => print_equation(rt, signature, &equation),
         Err(refusal) => {
             rt.println("this formula is refused")?;

@@ -7,3 +7,4 @@ pub mod Walks
 pub mod Handing
 pub mod Unique
 pub mod Alone
+pub mod Fewer

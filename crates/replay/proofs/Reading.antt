@@ -2,15 +2,13 @@
 use mathlib.Core.Path.{_≡_, refl, sym, ap, subst, _∙_}
 use mathlib.Core.List.{List, [], _∷_, _++_, append-assoc}
 use Prim.Native.Nat.{ℕ, _<_, _≤_}
-use native.Mathlib.Omega.{arith}
-use lib.ListN.{length, drop, length-append}
+use lib.ListN.{length}
 use Rattle.std.specs.declared.option.Option.{Option}
 use Rattle.std.specs.declared.option.Option.the-variants.{None, Some}
 use Rattle.std.specs.declared.result.Result.the-variants.{Ok, Err}
 use Rattle.refusal.specs.declared.Refusal.{Refusal}
 use Rattle.refusal.specs.declared.Refusal.the-variants.{Limits}
-use Rattle.lexer.specs.Tokens.{Lexeme, tokens-from}
-use Rattle.grammar.specs.Outcomes.{Handed, part as handed-part}
+use Rattle.grammar.specs.Outcomes.{Handed}
 use Rattle.grammar.specs.declared.part.Part.{Part}
 use Rattle.script.specs.declared.answer.Answer.{Answer}
 use Rattle.script.specs.declared.answer.Answer.the-variants.{Formula, Nothing, Refused}
@@ -20,13 +18,6 @@ use Rattle.replay.specs.Replies.{Reads, ended, part, Answers, long, read}
 pub record Sofar (text held : List ℕ) (at : ℕ) (answers : List Answer) : Type 0 where
   pub same : held ≡ text
   pub before : (more : List Answer) → Reads text at more → Reads text 0 (answers ++ more)
-
-pub one-fewer : (text held2 : List ℕ) (at after : ℕ) (step : Option Part) (x : Part) → held2 ≡ text → step ≡ Some x → Handed text at (Ok step) after → length (tokens-from (drop after held2) after) < length (tokens-from (drop at text) at)
-one-fewer text held2 at after step x same is h = rw same (fewer (rw is at h))
-  where
-    fewer : Handed text at (Ok (Some x)) after → length (tokens-from (drop after text) after) < length (tokens-from (drop at text) at)
-    fewer (handed-part cnf front is complete place end bytes) =
-        omega (arith, ap length is, length-append (cnf ∷ front) (tokens-from (drop after text) after))
 
 pub more-read : (text held held2 : List ℕ) (at after : ℕ) (answers answers2 : List Answer) (step : Option Part) (x : Part) → Sofar text held at answers → held2 ≡ held → step ≡ Some x → Handed held at (Ok step) after → answers2 ≡ answers ++ Formula (x .place) (length (x .bytes .now)) ∷ [] → Sofar text held2 after answers2
 more-read text held held2 at after answers answers2 step x old same some h is = record {

@@ -2,7 +2,8 @@ use mathlib.Core.List.{[], _∷_}
 use Rattle.std.specs.Of.Vec.{vec-items}
 use Rattle.script.specs.declared.answer.Answer.the-variants.{Refused, Nothing}
 use Rattle.replay.specs.Replies.{refused}
-use Rattle.replay.proofs.Reading.{one-fewer, more-read, all-read, none-left, too-long}
+use Rattle.grammar.proofs.Fewer.{one-fewer}
+use Rattle.replay.proofs.Reading.{more-read, all-read, none-left, too-long}
 use Rattle.replay.proofs.read_answers.Needs as need
 
 pub returns-in-Err : need.returns-in-Err

@@ -1,4 +1,4 @@
-use Rattle.dodgelaurel.proofs.Fewer.{one-fewer}
+use Rattle.grammar.proofs.Fewer.{one-fewer}
 use Rattle.dodgelaurel.proofs.report.print_problem.Needs as need
 
 pub loop-step-less : need.loop-step-less
