@@ -1,14 +1,13 @@
 // The two sides of a formula: written back from a bank, and compared.
 ghost use mathlib.Core.Path.{_≡_};
 ghost use mathlib.Core.Bool.{true, false};
+ghost use lib.ListN.{take};
 ghost use Rattle.std.specs.Options.{Cases as BySome};
 ghost use Rattle.std.specs.Results.{Cases};
 ghost use Rattle.std.specs.Of.Vec.{vec-items};
 ghost use Rattle.terms.specs.Patterns.{term-of};
-ghost use Rattle.signature.specs.Signatures.{names-of};
-ghost use Rattle.signature.specs.Written.{written};
 ghost use Rattle.sides.specs.declared.Fault.the-variants.{Refused, NoMemory};
-ghost use Rattle.sides.specs.Rules.{rule, Compared, Texts};
+ghost use Rattle.sides.specs.Rules.{rule, Compared, Held, Texts};
 use bank::cell::Cell;
 use enter::enter;
 use formula::equation::Equation;
@@ -71,21 +70,10 @@ pub fn write_sides(heap: Global, signature: &Signature, equation: &Equation) -> 
     ensures { λ r. ⌜ Cases r (λ s. Texts (now (signature .entry)) (now (equation .entry)) s) (λ _. Unit {0}) ⌝ }
 {
     let mut cells = vec![in heap; Cell::Var(0); BANK]?;
+    let bank = cells.as_mut_slice();
     let mut count = Count { len: 0 };
-    let left = write_side(
-        heap,
-        signature,
-        &equation.left,
-        cells.as_mut_slice(),
-        &mut count,
-    )?;
-    let right = write_side(
-        heap,
-        signature,
-        &equation.right,
-        cells.as_mut_slice(),
-        &mut count,
-    )?;
+    let left = write_side(heap, signature, &equation.left, bank, &mut count)?;
+    let right = write_side(heap, signature, &equation.right, bank, &mut count)?;
     Ok(Sides {
         left,
         right,
@@ -101,7 +89,7 @@ fn write_side(
     cells: &mut [Cell],
     count: &mut Count,
 ) -> Result<Vec<u8>, Fault>
-    ensures { λ r. ⌜ Cases r (λ v. vec-items v ≡ written (names-of (now (signature .entry))) (term-of (now (side .entry)))) (λ _. Unit {0}) ⌝ }
+    ensures { λ r. ⌜ Cases r (λ v. Held (now (signature .entry)) (term-of (now (side .entry))) (take (now (count .entry) .len) (now (cells .entry))) (take (now (count .exit) .len) (now (cells .exit))) (now (count .exit) .len) (vec-items v)) (λ _. Unit {0}) ⌝ }
 {
     let cell = enter(signature, side, cells, count)?;
     let mut text = vec![in heap; 0; LONGEST]?;

@@ -10,3 +10,6 @@ pub returns-in-Break-right : need.returns-in-Break-right
 returns-in-Break-right c =
     let p = err-from-errBy (c .from-residual-in-Break-right .result) (c .from-residual-in-Break-right .ensures .1) in
     rw (p .1) tt
+
+pub returns : need.returns
+returns c = record { first = _; both = _; n = _; left = c .in-Continue-left .ensures tt; right = c .in-Continue-right .ensures tt }
