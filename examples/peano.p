@@ -14,6 +14,3 @@ cnf(two_and_two, negated_conjecture,
 % Two times two are four.
 cnf(two_times_two, negated_conjecture,
     mul(s(s(zero)), s(s(zero))) != s(s(s(s(zero))))).
-% One and zero times zero are one. The tree offers two rules for the sum, and the filter drops one of them.
-cnf(one_and_nothing, negated_conjecture,
-    add(s(zero), mul(zero, zero)) != s(zero)).

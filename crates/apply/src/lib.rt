@@ -1,4 +1,6 @@
 // One step of a run: the redex replaced everywhere in a term, or nothing changed.
+#![tactic(auto)]
+
 ghost use Rattle.entries.specs.Stored.{map_of};
 ghost use Rattle.apply.specs.Applies.{Applies};
 

@@ -1,4 +1,6 @@
 // The order by size, which has little to prove: the example that docs/WRITING_AN_ORDER.md goes through.
+#![tactic(auto)]
+
 ghost use Rattle.std.specs.Prelude.{Decides};
 ghost use Rattle.terms.specs.Patterns.{term_of};
 ghost use Rattle.signature.specs.Signatures.{sig_of};

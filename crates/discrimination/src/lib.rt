@@ -1,4 +1,6 @@
 // Retrieval from a discrimination tree: the numbers of the patterns of which a cell's term may be an instance.
+#![tactic(auto)]
+
 mod agenda;
 mod pending;
 #[cfg(test)]

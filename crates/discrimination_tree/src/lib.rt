@@ -1,4 +1,6 @@
 // The discrimination tree: an index whose patterns share what they begin with.
+#![tactic(auto)]
+
 ghost use Rattle.entries.specs.Stored.{map_of};
 ghost use Rattle.trie.specs.Contents.{strings_of};
 ghost use Rattle.discrimination_tree.specs.Rows.{Tied};

@@ -14,9 +14,6 @@ cnf(two_and_two, negated_conjecture,
 % Two times two are four.
 cnf(two_times_two, negated_conjecture,
     mul(s(s(zero)), s(s(zero))) != s(s(s(s(zero))))).
-% One and zero times zero are one. The tree offers two rules for the sum, and the filter drops one of them.
-cnf(one_and_nothing, negated_conjecture,
-    add(s(zero), mul(zero, zero)) != s(zero)).
 cnf(good, axiom, add(zero, X) = X).
 % sub is not in the signature: this formula is refused, and the reading goes on.
 cnf(no_such_symbol, axiom, add(X, sub(Y, Z)) = X).

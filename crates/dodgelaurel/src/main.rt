@@ -1,10 +1,13 @@
 // Reads a signature and a problem, and says what it has read.
+#![tactic(auto)]
+
 use crate::report::{print_bad_signature, print_problem, print_signature};
-use retrieval_report::print_retrieval;
 use signature::signature::Signature;
 use std::{env, fs, io};
 
 mod report;
+mod shown;
+mod words;
 
 static USAGE: &str = "usage: dodgelaurel SIGNATURE [PROBLEM]\n\
 SIGNATURE is a file with a line for each symbol: its name, a tab, its arity, a tab, its weight.\n\
@@ -32,8 +35,7 @@ fn main(rt: HostRuntime) -> io::Result<()> {
         return Ok(());
     };
     println!(rt; "Problem {problem_path}")?;
-    let formulas = print_problem(&rt, &signature, problem.as_slice())?;
-    print_retrieval(&rt, &signature, formulas.as_slice())
+    print_problem(&rt, &signature, problem.as_slice())
 }
 
 // The bytes of a file, or None after a message that it cannot be read.

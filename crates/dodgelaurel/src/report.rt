@@ -1,14 +1,13 @@
 // What is printed of a signature, of a formula and of a refusal.
+use crate::shown::{Marked, Shown};
+use crate::words::{role_word, side_words, sign_word};
 use formula::equation::Equation;
 use grammar::part::Part;
 use grammar::reader::Reader;
 use places::{line_place, place_of};
-use printing::shown::{Marked, Shown};
-use printing::words::{role_word, side_words};
-use printing::{print_refusal, print_sides};
 use refusal::Refusal;
 use round_trip::read;
-use sides::higher_sides;
+use sides::{Fault, higher_sides, write_sides};
 use signature::signature::Signature;
 use std::io;
 
@@ -39,34 +38,25 @@ fn print_symbol(rt: &HostRuntime, signature: &Signature, symbol: u8) -> io::Resu
     println!(rt; "  {symbol:>2} {word}: arity {arity}, weight {weight}")
 }
 
-// Each formula of the text in its turn, and all that are read. What breaks the grammar ends the reading; a formula that is
-// refused for another reason is passed over.
-pub fn print_problem(
-    rt: &HostRuntime,
-    signature: &Signature,
-    text: &[u8],
-) -> io::Result<Vec<Equation>> {
-    let mut formulas = Vec::new(rt.alloc());
+// Each formula of the text in its turn. What breaks the grammar ends the reading; a formula that is refused for another
+// reason is passed over.
+pub fn print_problem(rt: &HostRuntime, signature: &Signature, text: &[u8]) -> io::Result<()> {
     let mut reader = match Reader::over(text) {
         Ok(reader) => reader,
-        Err(refusal) => {
-            print_refusal(rt, refusal)?;
-            return Ok(formulas);
-        }
+        Err(refusal) => return print_refusal(rt, refusal),
     };
     loop {
         let step = match reader.next() {
             Ok(step) => step,
             Err(refusal) => {
                 print_refused_at(rt, text, 0, refusal)?;
-                rt.println("The reading stops here.")?;
-                return Ok(formulas);
+                return rt.println("The reading stops here.");
             }
         };
         let Some(part) = step else {
-            return Ok(formulas);
+            return Ok(());
         };
-        print_part(rt, signature, text, part, &mut formulas)?;
+        print_part(rt, signature, text, part)?;
     }
 }
 
@@ -75,7 +65,6 @@ fn print_part(
     signature: &Signature,
     text: &[u8],
     part: Part<'_>,
-    formulas: &mut Vec<Equation>,
 ) -> io::Result<()> {
     let byte = part.place;
     if let Some(place) = place_of(text, byte) {
@@ -84,10 +73,7 @@ fn print_part(
         print!(rt; "{line}:{column} (byte {byte}): ")?;
     }
     match read(signature, part.bytes) {
-        Ok(equation) => {
-            formulas.push(equation)?;
-            print_equation(rt, signature, &equation)
-        }
+        Ok(equation) => print_equation(rt, signature, &equation),
         Err(refusal) => {
             rt.println("this formula is refused")?;
             print_refused_at(rt, text, byte, refusal)
@@ -96,11 +82,23 @@ fn print_part(
 }
 
 fn print_equation(rt: &HostRuntime, signature: &Signature, equation: &Equation) -> io::Result<()> {
+    let sides = match write_sides(rt.alloc(), signature, equation) {
+        Ok(sides) => sides,
+        Err(Fault::Refused(refusal)) => return print_refusal(rt, refusal),
+        Err(Fault::NoMemory) => return Err(io::Error::from(io::ErrorKind::OutOfMemory)),
+    };
     let role = role_word(equation.role);
-    print!(rt; "{role}\n  ")?;
-    let cells = print_sides(rt, signature, equation)?;
+    let sign = sign_word(equation.sign);
+    let left = Shown {
+        bytes: sides.left.as_slice(),
+    };
+    let right = Shown {
+        bytes: sides.right.as_slice(),
+    };
+    println!(rt; "{role}\n  {left} {sign} {right}")?;
     let left_len = equation.left.len();
     let right_len = equation.right.len();
+    let cells = sides.cells;
     let variables = equation.variables;
     println!(rt; "  cells: {left_len} and {right_len}, {cells} in a bank; variables: {variables}")?;
     print_higher(rt, signature, equation)
@@ -113,6 +111,11 @@ fn print_higher(rt: &HostRuntime, signature: &Signature, equation: &Equation) ->
     let weighed = side_words(turned.knuth_bendix);
     let path = side_words(turned.path);
     println!(rt; "  Knuth-Bendix order: {weighed}\n  lexicographic path order: {path}")
+}
+
+fn print_refusal(rt: &HostRuntime, refusal: Refusal) -> io::Result<()> {
+    let number = refusal.number();
+    println!(rt; "  refused {number}: {refusal}")
 }
 
 // The refusal of a signature, with the line that it names.

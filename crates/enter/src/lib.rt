@@ -1,4 +1,6 @@
 // Enters terms into a bank: the arguments from left to right, then the term itself, each unless it stands there already.
+#![tactic(auto)]
+
 ghost use Rattle.std.specs.Prelude.{◌≡◌, ◌≤◌, length, take, None};
 ghost use Rattle.enter.specs.Enter.{note as noted-once};
 ghost use Rattle.enter.specs.Machine.{Gives, Grew};

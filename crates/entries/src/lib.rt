@@ -1,4 +1,6 @@
 // Numbers with their patterns, at most N of them, in a fixed array.
+#![tactic(auto)]
+
 ghost use Rattle.std.specs.Prelude.{◌≡◌, ◌≤◌, true, length, take};
 ghost use Rattle.entries.specs.Lookup.{numbers, distinct};
 

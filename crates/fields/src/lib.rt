@@ -1,4 +1,6 @@
 // Fields of a text: up to the byte that ends them, and numbers in decimal without a sign and without leading zeros.
+#![tactic(auto)]
+
 ghost use Rattle.std.specs.Prelude.{◌≡◌, ℕ, ◌≤◌, decimal, MatchOption, ◌≢◌};
 ghost use Rattle.fields.specs.Cuts.{Without, Cut};
 

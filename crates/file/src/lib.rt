@@ -1,4 +1,6 @@
 // A session's file of equations: an index has the higher sides, and beside it stand the lower sides under the same numbers.
+#![tactic(auto)]
+
 ghost use Rattle.std.specs.Prelude.{◌≡◌, ℕ, length, None};
 ghost use Rattle.index.specs.Maps.{Inserted, Removed};
 ghost use Rattle.file.specs.Kept.{Kept, Free, equations};

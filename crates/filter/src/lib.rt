@@ -1,4 +1,6 @@
 // An exact index over any index: of its candidates it keeps those that generalize the cell's term.
+#![tactic(auto)]
+
 ghost use Rattle.std.specs.Prelude.{◌≡◌};
 ghost use Rattle.std.proofs.Common.{rules};
 

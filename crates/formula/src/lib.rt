@@ -1,4 +1,6 @@
 // A formula's text read against a signature: its role, its sign and its two sides as patterns.
+#![tactic(auto)]
+
 pub mod equation;
 mod frame;
 pub mod reading;

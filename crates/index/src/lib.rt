@@ -1,4 +1,6 @@
 // Indexes over patterns: what an index promises, and what an exact one promises beyond it.
+#![tactic(auto)]
+
 pub mod agree;
 pub mod capacity;
 pub mod exact;

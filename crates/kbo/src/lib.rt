@@ -1,4 +1,6 @@
 // The Knuth-Bendix order over a signature's weights; a variable weighs 1.
+#![tactic(auto)]
+
 ghost use Rattle.signature.specs.Signatures.{sig_of};
 ghost use Rattle.rewriting.specs.Order.{Within};
 ghost use Rattle.rewriting.specs.Kbo.{Kbo};

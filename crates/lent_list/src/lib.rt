@@ -1,4 +1,6 @@
 // A list over memory of the caller's: the cells are a lent slice, the count a record lent beside it.
+#![tactic(auto)]
+
 ghost use Rattle.std.specs.Prelude.{◌≡◌, ◌+◌, ◌<◌, ◌≤◌, Bool, true, false, [], ◌∷◌, ◌++◌, length, take, Decides, MatchOption, slice_index_or};
 ghost use Rattle.lent_list.specs.Words.{Appended, First};
 ghost use Rattle.std.proofs.Common.{rules};

@@ -1,1 +1,3 @@
 // Membership in lists, in specs/ and proofs/: it has no code.
+#![tactic(auto)]
+

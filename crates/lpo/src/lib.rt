@@ -1,4 +1,6 @@
 // The lexicographic path order: a later symbol of the signature is higher in precedence.
+#![tactic(auto)]
+
 ghost use Rattle.signature.specs.Signatures.{sig_of};
 ghost use Rattle.rewriting.specs.Order.{Within};
 ghost use Rattle.rewriting.specs.Lpo.{Lpo};

@@ -1,4 +1,6 @@
 // A pattern against a cell of a bank: the instance that the cell stands for, or that there is none.
+#![tactic(auto)]
+
 ghost use Rattle.std.specs.Prelude.{◌<◌, length, Decides};
 ghost use Rattle.terms.specs.Sig.{Sig};
 ghost use Rattle.terms.specs.Patterns.{term_of};

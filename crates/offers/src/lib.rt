@@ -1,5 +1,7 @@
 // What the rules of a problem have to offer for a term: the numbers that a discrimination tree gives, and those that stay
 // when each is tried.
+#![tactic(auto)]
+
 ghost use Rattle.std.specs.Prelude.{◌≤◌};
 
 use discrimination_tree::DiscriminationTree;

@@ -1,4 +1,6 @@
 // Reduction orders: what an order promises, and the one question that it is asked.
+#![tactic(auto)]
+
 ghost use Rattle.std.specs.Prelude.{Decides};
 ghost use Rattle.terms.specs.Term.{Term};
 ghost use Rattle.terms.specs.Patterns.{term_of};

@@ -1,4 +1,6 @@
 // Patterns over a signature.
+#![tactic(auto)]
+
 ghost use Rattle.std.specs.Prelude.{◌≡◌, Decides};
 ghost use Rattle.terms.specs.Sig.{Over};
 ghost use Rattle.terms.specs.Patterns.{term_of};

@@ -1,4 +1,6 @@
 // The line and the column of a byte of a text.
+#![tactic(auto)]
+
 ghost use Rattle.std.specs.Prelude.{◌≡◌, ◌+◌, ◌<◌, ◌≤◌, ◌⊎◌, length, MatchOption};
 ghost use Rattle.places.specs.Lines.{feeds, Starts, Ends, Placed, OnLine};
 

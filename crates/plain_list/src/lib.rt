@@ -1,4 +1,6 @@
 // The plain list: an index that goes over all its patterns. The fixed point that other indexes are compared with.
+#![tactic(auto)]
+
 ghost use Rattle.std.specs.Prelude.{◌≡◌, ℕ, ◌≤◌, length, take, None};
 ghost use Rattle.lists.specs.Members.{Once};
 ghost use Rattle.terms.specs.Sig.{Sig};

@@ -1,4 +1,6 @@
 // How refusals, formulas and numbers are printed.
+#![tactic(auto)]
+
 use formula::equation::Equation;
 use refusal::Refusal;
 use shown::Shown;

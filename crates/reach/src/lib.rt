@@ -1,4 +1,6 @@
 // Which cells of a bank stand for subterms of a term.
+#![tactic(auto)]
+
 ghost use Rattle.std.specs.Prelude.{◌≡◌, ℕ, false, length, slice_index_or};
 ghost use Rattle.reach.specs.Marks.{Marked, Added, Adding};
 

@@ -1,4 +1,6 @@
 // Texts with the outcomes that reading them is known to have: a crate of tests alone.
+#![tactic(auto)]
+
 #[cfg(test)]
 mod breaches;
 #[cfg(test)]

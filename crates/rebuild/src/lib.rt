@@ -1,4 +1,6 @@
 // The changed forms of a step: of each subterm that contained the replaced one, in the bank's order.
+#![tactic(auto)]
+
 ghost use Rattle.std.specs.Prelude.{◌≡◌, ◌<◌, ◌≤◌, length};
 ghost use Rattle.bank.specs.declared.cell.Cell.TheVariants.{Var};
 ghost use Rattle.enter.specs.Machine.{Grew};

@@ -1,4 +1,6 @@
 // Every refusal of every call: one enum, one number for each case, and the byte or line that some carry.
+#![tactic(auto)]
+
 ghost use Rattle.std.specs.Prelude.{◌≡◌};
 ghost use Rattle.refusal.specs.Table.{number_of, place_of};
 

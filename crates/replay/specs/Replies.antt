@@ -12,10 +12,6 @@ abbrev pub answer_of : Result (List Line) Refusal → Answer
 answer_of (Ok lines) = Done
 answer_of (Err refusal) = Refused refusal
 
-abbrev pub told_of : Result (Unit {0}) Refusal → Answer
-told_of (Ok _) = Done
-told_of (Err refusal) = Refused refusal
-
 -- the answers of a reader that stands at a place: a formula for each part, then that there is none, or the refusal
 pub data Reads (text : List ℕ) : ℕ → List Answer → Type 0 where
   ended : {at after : ℕ} → Handed text at (Ok None) after → Reads text at (Nothing ∷ [])

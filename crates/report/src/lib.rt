@@ -1,4 +1,6 @@
 // The lines that tell a run: its head, and one for each step.
+#![tactic(auto)]
+
 ghost use Rattle.std.specs.Prelude.{◌≡◌, Some};
 ghost use Rattle.report.specs.Lines.{outcome_word, side_word, verdict_word, end_text, head_text, step_text};
 

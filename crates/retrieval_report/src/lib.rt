@@ -1,4 +1,6 @@
 // What is printed of the indexes: for each subterm of a goal, which rules a discrimination tree offers and which of them stay.
+#![tactic(auto)]
+
 use bank::cell::Cell;
 use enter::enter;
 use formula::equation::{Equation, Role};

@@ -1,1 +1,3 @@
 // The mathematics of reduction orders, in specs/ and proofs/: it has no code.
+#![tactic(auto)]
+

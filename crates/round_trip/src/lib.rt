@@ -1,4 +1,6 @@
 // Reading what was written: the text of two terms reads back as them, but for variable numbers.
+#![tactic(auto)]
+
 ghost use Rattle.formula.specs.Outcomes.{Outcome};
 ghost use Rattle.round_trip.specs.RoundTrip.{RoundTrip};
 

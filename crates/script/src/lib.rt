@@ -1,4 +1,6 @@
 // The call script: one call to a line.
+#![tactic(auto)]
+
 pub mod answer;
 pub mod call;
 pub mod line;

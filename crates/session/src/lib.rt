@@ -1,4 +1,6 @@
 // A session: a file of equations over one signature, each turned by one order, its higher sides in one exact index.
+#![tactic(auto)]
+
 ghost use Rattle.std.specs.Prelude.{◌≡◌, false, []};
 ghost use Rattle.session.specs.Kept.{Kept};
 ghost use Rattle.session.specs.Pasts.{FileAfter, Determined};

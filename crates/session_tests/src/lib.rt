@@ -1,4 +1,6 @@
 // Calls of a session with the answers that they are known to have: a crate of tests alone.
+#![tactic(auto)]
+
 #[cfg(test)]
 mod adding;
 #[cfg(test)]

@@ -1,4 +1,6 @@
 // The two sides of a formula: written back from a bank, and compared.
+#![tactic(auto)]
+
 ghost use Rattle.std.specs.Prelude.{◌≡◌, true, false, take, IfOk, MatchOption};
 ghost use Rattle.terms.specs.Patterns.{term_of};
 ghost use Rattle.sides.specs.declared.Fault.TheVariants.{Refused, NoMemory};

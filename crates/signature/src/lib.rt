@@ -1,4 +1,6 @@
 // Signatures: names, arities and weights, read from lines of text.
+#![tactic(auto)]
+
 mod line;
 pub mod name;
 pub mod signature;

@@ -1,4 +1,6 @@
 // Where the next step is taken: at the earliest cell that is an instance of a stored pattern, by the lowest number of such a pattern.
+#![tactic(auto)]
+
 ghost use Rattle.std.specs.Prelude.{◌≡◌};
 ghost use Rattle.strategy.specs.Searches.{lowered, Lowest, LowestAt, Searched};
 

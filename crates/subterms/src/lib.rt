@@ -1,4 +1,6 @@
 // A pattern's subterms, each named by the place where its nodes begin, and where they end.
+#![tactic(auto)]
+
 ghost use Rattle.std.specs.Prelude.{◌≡◌, ℕ, ◌+◌, ◌<◌, ◌≤◌, length, take, slice_index};
 ghost use Rattle.terms.specs.Term.{cells};
 ghost use Rattle.terms.specs.Preorder.{Whole};

@@ -1,4 +1,6 @@
 // The records of a run: one for each rewriting step, in the caller's memory.
+#![tactic(auto)]
+
 ghost use Rattle.std.specs.Prelude.{◌≡◌};
 ghost use Rattle.lent_list.specs.Words.{Appended};
 ghost use Rattle.std.proofs.Common.{rules};

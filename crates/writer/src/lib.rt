@@ -1,4 +1,6 @@
 // Writes the term of a bank's cell as text into the caller's buffer.
+#![tactic(auto)]
+
 ghost use Rattle.std.specs.Prelude.{◌≡◌, ◌+◌, ◌<◌, ◌≤◌, ◌++◌, length, take, drop, Decides};
 ghost use Rattle.terms.specs.Term.{Term};
 ghost use Rattle.signature.specs.Signatures.{sig_of, names_of};

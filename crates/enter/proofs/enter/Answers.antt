@@ -28,11 +28,11 @@ entered s p cells n cells' n' (Err e) sized fits (same, inr (inr l)) = (same, in
 
 pub returns-then-not-is_over : goal.returns-then-not-is_over
 returns-then-not-is_over c =
-    let sound = c.in-ok-keeps_rules.ensures in
+    let sound = c.in_ok-keeps_rules.ensures in
     (refl, inr (inl (sound.sized, (λ fits. false≢true (c.if-not-is_over.ensures.1 fits.1)), refl, refl)))
 
 pub returns : goal.returns
 returns c =
-    let sound = c.in-ok-keeps_rules.ensures in
+    let sound = c.in_ok-keeps_rules.ensures in
     let over = c.if-not-is_over.ensures.0 refl in
     entered c.args.signature.now c.args.pattern.now c.args.cells.now c.args.count.now.len c.enter_instance.new.cells c.enter_instance.new.count.len c.enter_instance.result sound.sized (sound.keeps, over) c.enter_instance.ensures

@@ -13,8 +13,8 @@ returns-in-empty c n most is =
     let none : length c.args.text.now < 1 = search rules in
     omega (arith, length_some c.args.text.now n (omega arith) is)
 
-pub returns-in-empty·2 : goal.returns-in-empty·2
-returns-in-empty·2 c n most is = zero_alone c.args.text.now n (omega arith) is (search rules) (search rules)
+pub returns-in-empty-2 : goal.returns-in-empty-2
+returns-in-empty-2 c n most is = zero_alone c.args.text.now n (omega arith) is (search rules) (search rules)
 
 pub returns-then-not-is_ascii_digit : goal.returns-then-not-is_ascii_digit
 returns-then-not-is_ascii_digit c n most is =

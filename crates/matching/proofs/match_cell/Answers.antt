@@ -21,15 +21,15 @@ loop-node-preserved c =
     let n = get_or c.nodes-nodes.result.now c.loop-node.node-index (Var 0) in
     let l : c.loop-node.node-index < length (nodes_of c.args.pattern.now) = omega (arith, ap length c.nodes-nodes.ensures) in
     let is = ap (λ ns. get_or ns c.loop-node.node-index (Var 0)) (sym c.nodes-nodes.ensures) in
-    again c.loop-node.invariant n l is c.meet.new.bindings c.meet.new.pending c.in-ok-depth.depth c.meet.auto.bindings c.meet.auto.pending c.in-ok-depth.ensures
+    again c.loop-node.invariant n l is c.meet.new.bindings c.meet.new.pending c.in_ok-depth.depth c.meet.auto.bindings c.meet.auto.pending c.in_ok-depth.ensures
 
-pub returns-in-err-depth : goal.returns-in-err-depth
-returns-in-err-depth c =
+pub returns-in_err-depth : goal.returns-in_err-depth
+returns-in_err-depth c =
     let n = get_or c.nodes-nodes.result.now c.loop-node.node-index (Var 0) in
     let l : c.loop-node.node-index < length (nodes_of c.args.pattern.now) = omega (arith, ap length c.nodes-nodes.ensures) in
     let is = ap (λ ns. get_or ns c.loop-node.node-index (Var 0)) (sym c.nodes-nodes.ensures) in
-    subst (Matched c.args.bank.now c.args.pattern.now c.args.cell) (sym c.from-residual.ensures)
-    (ended c.loop-node.invariant n l is c.meet.new.bindings c.meet.new.pending c.in-err-depth.ensures)
+    subst (Matched c.args.bank.now c.args.pattern.now c.args.cell) (sym c.from_residual.ensures)
+    (ended c.loop-node.invariant n l is c.meet.new.bindings c.meet.new.pending c.in_err-depth.ensures)
 
 pub returns : goal.returns
 returns c = finished c.loop-node.invariant (omega (arith, ap length c.nodes-nodes.ensures))

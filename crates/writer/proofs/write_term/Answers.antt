@@ -4,7 +4,7 @@ use Rattle.writer.proofs.write_term.Goals as goal
 
 pub returns : goal.returns
 returns c =
-    let sound = c.in-ok-keeps_rules.ensures in
+    let sound = c.in_ok-keeps_rules.ensures in
     let n = c.if-cell-count.false in
     let size = length-take-le c.args.count.now.len c.args.cells.now sound.keeps.counted in
     let r = sound.laws.reads c.args.cell (omega (arith, n, size)) in (

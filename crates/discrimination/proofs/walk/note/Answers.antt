@@ -12,7 +12,7 @@ returns-else-is_empty c =
     let more = c.if-is_empty.ensures in
     noted_waits c.args.label (cells_of c.args.pending.now) c.args.list.now c.args.found.now.len c.in-Number.number more.0 more.1 c.requires c.in-Number.is more.2
 
-pub returns-in-default : goal.returns-in-default
-returns-in-default c =
+pub returns-in_default : goal.returns-in_default
+returns-in_default c =
     let is = cells_of c.args.pending.now in
-    noted_nothing c.args.label is c.args.list.now c.args.found.now.len c.requires (not_ended c.args.label is c.in-default.not-Number)
+    noted_nothing c.args.label is c.args.list.now c.args.found.now.len c.requires (not_ended c.args.label is c.in_default.not-Number)

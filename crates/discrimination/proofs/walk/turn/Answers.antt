@@ -3,14 +3,14 @@ use Rattle.trie.specs.Trees.{blank}
 use Rattle.discrimination.proofs.Turning.{holds_place, label_fits, down_room, turned_none, turned_some}
 use Rattle.discrimination.proofs.walk.turn.Goals as goal
 
-pub returns-in-default-branch : goal.returns-in-default-branch
-returns-in-default-branch c =
+pub returns-in_default-branch : goal.returns-in_default-branch
+returns-in_default-branch c =
     let ns = c.args.trie.now.nodes in
     let f = c.index-agenda-top.result in
     let z : ⊥ = omega (
       arith,
       holds_place c.args.bank.now ns c.args.agenda.now c.args.top f (get_or ns f.place blank) c.requires.room c.requires.within c.index-agenda-top.is c.requires.ready refl,
-      c.in-default-branch.ensures,
+      c.in_default-branch.ensures,
     ) in
     absurd z
 

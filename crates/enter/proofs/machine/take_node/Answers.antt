@@ -10,8 +10,8 @@ offset-bounds-nodes-at c = let l = has_node c.requires.ready c.requires.waits in
 pub bounds-nodes-at : goal.bounds-nodes-at
 bounds-nodes-at c = has_node c.requires.ready c.requires.waits
 
-pub overflow-add-at : goal.overflow-add-at
-overflow-add-at c = let l = has_node c.requires.ready c.requires.waits in omega (arith, c.requires.ready.few)
+pub overflow_add-at : goal.overflow_add-at
+overflow_add-at c = let l = has_node c.requires.ready c.requires.waits in omega (arith, c.requires.ready.few)
 
 pub deliver-requires : goal.deliver-requires
 deliver-requires c = record {
@@ -22,8 +22,8 @@ deliver-requires c = record {
 pub bounds-stack-depth : goal.bounds-stack-depth
 bounds-stack-depth c = push_room c.requires.ready c.requires.waits
 
-pub overflow-add-result-in-App : goal.overflow-add-result-in-App
-overflow-add-result-in-App c = let l = has_node c.requires.ready c.requires.waits in omega (arith, c.requires.ready.few)
+pub overflow_add-result-in-App : goal.overflow_add-result-in-App
+overflow_add-result-in-App c = let l = has_node c.requires.ready c.requires.waits in omega (arith, c.requires.ready.few)
 
 pub returns-in-Some : goal.returns-in-Some
 returns-in-Some c =

@@ -5,12 +5,12 @@ use Rattle.enter.specs.Enter.{bound}
 use Rattle.enter.specs.Machine.{Gives}
 use Rattle.enter.proofs.Noting.{put_gives, put_grew, none_from}
 use Rattle.enter.proofs.note.variable.Goals as goal
-use Rattle.enter.proofs.note.variable.Goals.{then-at-bindings+in-default, else-at-bindings}
+use Rattle.enter.proofs.note.variable.Goals.{then-at-bindings+in_default, else-at-bindings}
 
 pub returns : goal.returns
 returns c =
     let free : get_or c.args.bindings.now c.args.x None ≡ None = elim c.if-at-bindings.branch [
-      | then-at-bindings+in-default w ↦ none_from (get_or c.args.bindings.now c.args.x None) w.in-default.not-Some
+      | then-at-bindings+in_default w ↦ none_from (get_or c.args.bindings.now c.args.x None) w.in_default.not-Some
       | else-at-bindings w ↦ get_or_past c.args.bindings.now c.args.x None w.if-at-bindings.false
     ] in
     let b = take c.args.count.now.len c.args.cells.now in

@@ -7,9 +7,9 @@ use Rattle.formula.proofs.tokens.skip_tokens.Goals as goal
 given_out : (i n : ℕ) (ts : List Lexeme) → i ≤ n → drop i ts ≡ [] → drop n ts ≡ []
 given_out i n ts h e = drop_all n ts (omega (arith, sym (length-drop i ts) ∙ ap length e))
 
-pub returns-in-default : goal.returns-in-default
-returns-in-default c =
-    let none = c.in-default.ensures in
+pub returns-in_default : goal.returns-in_default
+returns-in_default c =
+    let none = c.in_default.ensures in
     none ∙ sym (given_out c.loop-i.i c.args.n _ (omega arith) (sym c.loop-i.invariant ∙ none))
 
 pub loop-i-preserved : goal.loop-i-preserved

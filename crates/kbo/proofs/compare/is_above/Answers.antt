@@ -36,11 +36,11 @@ first_difference-requires c =
     let e = args_widths w c.in-ByArguments.arity (at (row_of c.args.s.now) c.loop-arity.p) (at (row_of c.args.t.now) c.loop-arity.q) (said c).2 in
     (c.loop-arity.invariant.0, (c.loop-arity.invariant.1, (e.0, e.1)))
 
-pub returns-in-default : goal.returns-in-default
-returns-in-default c =
+pub returns-in_default : goal.returns-in_default
+returns-in_default c =
     let w = (sig_of c.args.signature.now).weight in
-    let says = said (goal.at.returns-in-default c).In-ByArguments in
-    (λ e. absurd (false≢true e), λ h. absurd (c.in-default.ensures w (args_down w c.in-ByArguments.arity _ _ says (c.loop-arity.invariant.2 h))))
+    let says = said (goal.at.returns-in_default c).In-ByArguments in
+    (λ e. absurd (false≢true e), λ h. absurd (c.in_default.ensures w (args_down w c.in-ByArguments.arity _ _ says (c.loop-arity.invariant.2 h))))
 
 pub loop-arity-preserved : goal.loop-arity-preserved
 loop-arity-preserved c =

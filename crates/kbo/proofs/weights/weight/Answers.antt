@@ -11,8 +11,8 @@ use Rattle.kbo.proofs.weights.weight.Goals.{After-weight_of-sum}
 step : (c : After-weight_of-sum) → c.loop-node.sum + c.weight_of-sum.result + row_weight (sig_of c.args.signature.now).weight (drop (c.loop-node.node-index + 1) c.args.row.now) ≡ row_weight (sig_of c.args.signature.now).weight c.args.row.now
 step c = omega (arith, at_drop_more (row_weight (sig_of c.args.signature.now).weight) c.args.row.now c.loop-node.node-index (Var 0) (omega arith), c.weight_of-sum.ensures, c.loop-node.invariant)
 
-pub overflow-add-sum : goal.overflow-add-sum
-overflow-add-sum c = omega (arith, step c, row_most (sig_of c.args.signature.now).weight (weight_most_lem c.args.signature.now) c.args.row.now, c.requires)
+pub overflow_add-sum : goal.overflow_add-sum
+overflow_add-sum c = omega (arith, step c, row_most (sig_of c.args.signature.now).weight (weight_most_lem c.args.signature.now) c.args.row.now, c.requires)
 
 pub loop-node-preserved : goal.loop-node-preserved
 loop-node-preserved c = step c

@@ -2,7 +2,7 @@ use Rattle.std.proofs.Common.{◌≡◌, ◌+◌, ◌<◌, length, get_or, sym, 
 use Rattle.std.specs.Option.{option_map}
 use Rattle.lexer.proofs.Heads.{block_none, block_here, block_more, Apart, shifted, tail_length}
 use Rattle.lexer.proofs.first.block_length.Goals as goal
-use Rattle.lexer.proofs.first.block_length.Goals.{then-rest-lt2, else-rest-lt2+in-42·+in-default·, else-rest-lt2+in-default·}
+use Rattle.lexer.proofs.first.block_length.Goals.{then-rest-lt2, else-rest-lt2+in-42·+in_default·, else-rest-lt2+in_default·}
 
 pub returns-in-empty : goal.returns-in-empty
 returns-in-empty c =
@@ -24,7 +24,7 @@ loop-rest-preserved c =
     let some : 0 < length xs = search rules in
     let apart : Apart xs = elim c.in-len1-up·.branch [
       | then-rest-lt2 w ↦ inl (search rules)
-      | else-rest-lt2+in-42·+in-default· w ↦ inr (inr (search rules))
-      | else-rest-lt2+in-default· w ↦ inr (inl (search rules))
+      | else-rest-lt2+in-42·+in_default· w ↦ inr (inr (search rules))
+      | else-rest-lt2+in_default· w ↦ inr (inl (search rules))
     ] in
     (sym (shifted c.loop-rest.n _) ∙ ap (option_map (λ k. c.loop-rest.n + k)) (sym (block_more xs some apart)) ∙ c.loop-rest.invariant.0, omega (arith, tail_length 1 xs, c.loop-rest.invariant.1))

@@ -9,8 +9,8 @@ returns-in-Nothing c =
     let m = moved c.args.text.now c.loop-place.place _ c.loop-place-test.true c.in-Nothing.ensures in
     c.loop-place.invariant.0 ∙ tokens_end _ _ m.0
 
-pub overflow-add-place : goal.overflow-add-place
-overflow-add-place c =
+pub overflow_add-place : goal.overflow_add-place
+overflow_add-place c =
     let m = moved c.args.text.now c.loop-place.place _ c.loop-place-test.true c.in-Gap.ensures in
     omega (arith, m.1.1)
 
@@ -26,8 +26,8 @@ loop-place-preserved c =
     let gap = tokens_gap (drop c.loop-place.place text) c.loop-place.place c.in-Gap.n m.0 in
     (c.loop-place.invariant.0 ∙ gap ∙ ap (λ bs. tokens_from bs (c.loop-place.place + c.in-Gap.n)) (drop-drop c.in-Gap.n c.loop-place.place text), omega (arith, c.loop-place.invariant.1))
 
-pub overflow-add-bytes : goal.overflow-add-bytes
-overflow-add-bytes c =
+pub overflow_add-bytes : goal.overflow_add-bytes
+overflow_add-bytes c =
     let m = moved c.args.text.now c.loop-place.place _ c.loop-place-test.true c.in-Piece.ensures in
     omega (arith, m.1.1)
 

@@ -7,14 +7,14 @@ use Rattle.offers.proofs.ask.ask.Goals as goal
 pub returns : goal.returns
 returns c =
     let S = sig_of c.args.signature.now in
-    let may = c.in-ok-check_question.ensures in
+    let may = c.in_ok-check_question.ensures in
     let a = asked S c.args.cells.now c.args.count.now.len c.args.cell 64 (replicate 64 0) may in
-    let agreed = c.in-ok-agrees.ensures in (
+    let agreed = c.in_ok-agrees.ensures in (
       may,
       record {
         offered = c.loose-offered.ensures S a;
         kept = c.exact-kept.ensures S a;
         decided = agreed.agreed.1;
-        agrees = λ ps k. not_false c.in-ok-agrees.agrees (agreed.alike (λ n. k.tree n ∙ sym (k.list n)));
+        agrees = λ ps k. not_false c.in_ok-agrees.agrees (agreed.alike (λ n. k.tree n ∙ sym (k.list n)));
       },
     )

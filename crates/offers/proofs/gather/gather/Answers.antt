@@ -17,8 +17,8 @@ loop-formula-preserved c =
     subst (λ k. Going c.args.signature.now c.args.formulas.now c.add_higher.new.patterns k (c.loop-formula.formula-index + 1)) is
     (goes_on c.formula-item.result c.add_higher.result c.loop-formula.invariant c.loop-formula-test.true c.formula-item.is c.add_higher.ensures)
 
-pub overflow-add-left_out : goal.overflow-add-left_out
-overflow-add-left_out c = omega (arith, c.loop-formula.invariant.few, c.loop-formula-test.true)
+pub overflow_add-left_out : goal.overflow_add-left_out
+overflow_add-left_out c = omega (arith, c.loop-formula.invariant.few, c.loop-formula-test.true)
 
 pub returns : goal.returns
 returns c = finished c.loop-formula.invariant c.loop-formula-test.false

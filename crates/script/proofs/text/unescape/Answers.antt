@@ -5,11 +5,11 @@ use Rattle.script.specs.Escapes.{unescaped}
 use Rattle.script.proofs.Escaping.{before, before_more, before_none, before_all, codes_stand, plain_stand}
 use Rattle.script.proofs.text.unescape.Goals as goal
 
-pub returns-in-default : goal.returns-in-default
-returns-in-default c =
+pub returns-in_default : goal.returns-in_default
+returns-in_default c =
     let bytes = vec_items c.loop-rest.bytes in
     record {
-      stands = λ _. c.loop-rest.invariant ∙ ap (before bytes) c.in-default.ensures ∙ before_none bytes;
+      stands = λ _. c.loop-rest.invariant ∙ ap (before bytes) c.in_default.ensures ∙ before_none bytes;
       codes_stand = codes_stand;
       plain_stand = plain_stand;
     }

@@ -5,37 +5,37 @@ use Rattle.fields.proofs.Cutting.{uncut}
 use Rattle.signature.proofs.Cuts.{flat, name_cut, arity_cut, weight_cut, line_whole, past, text_some}
 use Rattle.signature.proofs.line.first_line.Goals as goal
 
-pub returns-in-err-name : goal.returns-in-err-name
-returns-in-err-name c =
-    rw c.from-residual.ensures (λ l after ok e.
-    uncut 9 l.name _ (rw (e ∙ flat l after) at c.in-err-name.ensures))
+pub returns-in_err-name : goal.returns-in_err-name
+returns-in_err-name c =
+    rw c.from_residual.ensures (λ l after ok e.
+    uncut 9 l.name _ (rw (e ∙ flat l after) at c.in_err-name.ensures))
 
-pub returns-in-err-arity : goal.returns-in-err-arity
-returns-in-err-arity c =
-    rw c.from-residual-in-err-arity.ensures (λ l after ok e.
-    let n = name_cut l after ok _ _ _ c.in-ok-name.ensures e in
-    uncut 9 (decimal l.arity) _ (rw n.1 at c.in-err-arity.ensures))
+pub returns-in_err-arity : goal.returns-in_err-arity
+returns-in_err-arity c =
+    rw c.from_residual-in_err-arity.ensures (λ l after ok e.
+    let n = name_cut l after ok _ _ _ c.in_ok-name.ensures e in
+    uncut 9 (decimal l.arity) _ (rw n.1 at c.in_err-arity.ensures))
 
-pub returns-in-err-weight : goal.returns-in-err-weight
-returns-in-err-weight c =
-    rw c.from-residual-in-err-weight.ensures (λ l after ok e.
-    let n = name_cut l after ok _ _ _ c.in-ok-name.ensures e in
-    let a = arity_cut l after ok _ _ _ c.in-ok-arity.ensures n.1 in
-    uncut 10 (decimal l.weight) _ (rw a.1 at c.in-err-weight.ensures))
+pub returns-in_err-weight : goal.returns-in_err-weight
+returns-in_err-weight c =
+    rw c.from_residual-in_err-weight.ensures (λ l after ok e.
+    let n = name_cut l after ok _ _ _ c.in_ok-name.ensures e in
+    let a = arity_cut l after ok _ _ _ c.in_ok-arity.ensures n.1 in
+    uncut 10 (decimal l.weight) _ (rw a.1 at c.in_err-weight.ensures))
 
-pub returns-in-err-symbol : goal.returns-in-err-symbol
-returns-in-err-symbol c =
-    rw c.from-residual-in-err-symbol.ensures (λ l after ok e.
-    let n = name_cut l after ok _ _ _ c.in-ok-name.ensures e in
-    let a = arity_cut l after ok _ _ _ c.in-ok-arity.ensures n.1 in
-    let w = weight_cut l after ok _ _ _ c.in-ok-weight.ensures a.1 in
-    c.in-err-symbol.ensures l ok (record { name_is = n.0; arity_is = a.0; weight_is = w.0 }))
+pub returns-in_err-symbol : goal.returns-in_err-symbol
+returns-in_err-symbol c =
+    rw c.from_residual-in_err-symbol.ensures (λ l after ok e.
+    let n = name_cut l after ok _ _ _ c.in_ok-name.ensures e in
+    let a = arity_cut l after ok _ _ _ c.in_ok-arity.ensures n.1 in
+    let w = weight_cut l after ok _ _ _ c.in_ok-weight.ensures a.1 in
+    c.in_err-symbol.ensures l ok (record { name_is = n.0; arity_is = a.0; weight_is = w.0 }))
 
-whole : (c : goal.In-ok-symbol) → c.args.text.now ≡ text_of (line_of c.in-ok-symbol.symbol) ++ c.in-ok-weight.weight.after.now
-whole c = line_whole _ c.in-ok-name.ensures c.in-ok-arity.ensures c.in-ok-weight.ensures c.in-ok-symbol.ensures
+whole : (c : goal.In_ok-symbol) → c.args.text.now ≡ text_of (line_of c.in_ok-symbol.symbol) ++ c.in_ok-weight.weight.after.now
+whole c = line_whole _ c.in_ok-name.ensures c.in_ok-arity.ensures c.in_ok-weight.ensures c.in_ok-symbol.ensures
 
-pub overflow-sub-result : goal.overflow-sub-result
-overflow-sub-result c = omega (arith, ap length (whole c), length-append (text_of (line_of c.in-ok-symbol.symbol)) c.in-ok-weight.weight.after.now)
+pub overflow_sub-result : goal.overflow_sub-result
+overflow_sub-result c = omega (arith, ap length (whole c), length-append (text_of (line_of c.in_ok-symbol.symbol)) c.in_ok-weight.weight.after.now)
 
 pub returns : goal.returns
-returns c = past c.args.text.now (text_of (line_of c.in-ok-symbol.symbol)) c.in-ok-weight.weight.after.now (whole c) (text_some (line_of c.in-ok-symbol.symbol))
+returns c = past c.args.text.now (text_of (line_of c.in_ok-symbol.symbol)) c.in_ok-weight.weight.after.now (whole c) (text_some (line_of c.in_ok-symbol.symbol))

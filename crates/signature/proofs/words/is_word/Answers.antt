@@ -17,7 +17,7 @@ returns-then-is_ascii_lowercase c =
     let bs = c.args.text.now in
     let e = headed bs (search rules) in
     let low : true ≡ lower (get_or bs 0 0) = c.if-is_ascii_lowercase.ensures.value in
-    c.all-wordly.ensures ∙ ap (λ t. t && all_wordly_lem (take (length bs - 1) (drop 1 bs))) low ∙ sym e
+    c.all_wordly.ensures ∙ ap (λ t. t && all_wordly_lem (take (length bs - 1) (drop 1 bs))) low ∙ sym e
 
 pub returns-else-is_ascii_lowercase : goal.returns-else-is_ascii_lowercase
 returns-else-is_ascii_lowercase c =

@@ -22,8 +22,8 @@ less c = omega (arith, width_from c.args.row.now c.requires.0 c.loop-open.i, c.l
 open_after : (c : After-arity) → c.loop-open.open - 1 + c.arity.result ≤ width (from c.args.row.now (c.loop-open.i + 1))
 open_after c = omega (arith, walk_width c.args.row.now c.requires.0 c.loop-open.i c.loop-open.open (less c) c.loop-open-test.true c.loop-open.invariant.1, c.arity.ensures)
 
-pub overflow-add-open : goal.overflow-add-open
-overflow-add-open c = omega (arith, open_after c, width_from c.args.row.now c.requires.0 (c.loop-open.i + 1))
+pub overflow_add-open : goal.overflow_add-open
+overflow_add-open c = omega (arith, open_after c, width_from c.args.row.now c.requires.0 (c.loop-open.i + 1))
 
 pub loop-open-smaller : goal.loop-open-smaller
 loop-open-smaller c = omega (arith, less c)

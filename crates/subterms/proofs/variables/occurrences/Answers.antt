@@ -9,8 +9,8 @@ use Rattle.subterms.proofs.variables.occurrences.Goals.{After-one_if-n}
 step : (c : After-one_if-n) → c.loop-node.n + c.one_if-n.result + occurring c.args.x (drop (c.loop-node.node-index + 1) c.args.row.now) ≡ occurring c.args.x c.args.row.now
 step c = omega (arith, at_drop_more (occurring c.args.x) c.args.row.now c.loop-node.node-index (Var 0) (omega arith), c.one_if-n.ensures, c.loop-node.invariant)
 
-pub overflow-add-n : goal.overflow-add-n
-overflow-add-n c = omega (arith, step c, occurring_most c.args.x c.args.row.now)
+pub overflow_add-n : goal.overflow_add-n
+overflow_add-n c = omega (arith, step c, occurring_most c.args.x c.args.row.now)
 
 pub loop-node-preserved : goal.loop-node-preserved
 loop-node-preserved c = step c

@@ -45,8 +45,8 @@ returns-then-done-arity c text left =
     let t = close_turn c.requires c.in-App.symbol c.in-App.arity c.in-App.args c.in-App.is text o c.if-done-arity.true in
     record { rest = t.0; left = t.1; within = omega (arith, c.requires.within); is = t.2 ∙ ap (λ y. y ++ t.0) (sym c.mark.ensures); some = rw c.mark.ensures (omega arith) }
 
-pub overflow-add-stack : goal.overflow-add-stack
-overflow-add-stack c =
+pub overflow_add-stack : goal.overflow_add-stack
+overflow_add-stack c =
     let n = standing c.requires c.in-App.symbol c.in-App.arity c.in-App.args c.in-App.is in
     omega (arith, n.few, c.if-done-arity.false)
 

@@ -6,7 +6,7 @@ use Rattle.discrimination_tree.proofs.methods.DiscriminationTreeIndex.remove.Goa
 pub invariant-of-self-2 : goal.invariant-of-self-2
 invariant-of-self-2 c =
     let s = c.args.self.now in (
-      removed (map_of s.entries) (map_of c.remove.new.self) c.args.number c.in-ok-pattern.pattern (strings_of s.trie) (strings_of c.remove-2.new.self) s.tied
-          c.remove-2.result c.in-ok-pattern.ensures c.in-ok-remove.ensures.1 c.remove-2.ensures,
+      removed (map_of s.entries) (map_of c.remove.new.self) c.args.number c.in_ok-pattern.pattern (strings_of s.trie) (strings_of c.remove-2.new.self) s.tied
+          c.remove-2.result c.in_ok-pattern.ensures c.in_ok-remove.ensures.1 c.remove-2.ensures,
       tt,
     )

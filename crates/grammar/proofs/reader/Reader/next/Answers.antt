@@ -5,19 +5,19 @@ use Rattle.grammar.specs.Outcomes.{none}
 use Rattle.grammar.proofs.Handing.{refuses, hands}
 use Rattle.grammar.proofs.reader.Reader.next.Goals as goal
 
-pub returns-in-default : goal.returns-in-default
-returns-in-default c = record { same = refl; handed = none c.in-default.ensures }
+pub returns-in_default : goal.returns-in_default
+returns-in_default c = record { same = refl; handed = none c.in_default.ensures }
 
-pub returns-in-err-end : goal.returns-in-err-end
-returns-in-err-end c =
-    let p = err_from_is_err_and c.from-residual.result c.from-residual.ensures.1 in
-    record { same = refl; handed = refuses _ _ c.in-Some.first.place _ (lexeme_of c.in-Some.first) _ c.from-residual.result c.in-Some.ensures.0 c.in-Some.ensures.4 c.in-err-end.ensures (rw (p.1, p.2)) }
+pub returns-in_err-end : goal.returns-in_err-end
+returns-in_err-end c =
+    let p = err_from_is_err_and c.from_residual.result c.from_residual.ensures.1 in
+    record { same = refl; handed = refuses _ _ c.in-Some.first.place _ (lexeme_of c.in-Some.first) _ c.from_residual.result c.in-Some.ensures.0 c.in-Some.ensures.4 c.in_err-end.ensures (rw (p.1, p.2)) }
 
 pub slice-bounds-result-count : goal.slice-bounds-result-count
-slice-bounds-result-count c = c.in-ok-end.ensures.1
+slice-bounds-result-count c = c.in_ok-end.ensures.1
 
 pub slice-bounds-result-start : goal.slice-bounds-result-start
-slice-bounds-result-start c = c.in-ok-end.ensures.1
+slice-bounds-result-start c = c.in_ok-end.ensures.1
 
 pub returns : goal.returns
-returns c = record { same = refl; handed = hands _ _ (lexeme_of c.in-Some.first) _ c.in-ok-end.end _ c.in-Some.ensures.0 c.in-Some.ensures.4 c.in-ok-end.ensures.0 c.in-ok-end.ensures.1 refl refl }
+returns c = record { same = refl; handed = hands _ _ (lexeme_of c.in-Some.first) _ c.in_ok-end.end _ c.in-Some.ensures.0 c.in-Some.ensures.4 c.in_ok-end.ensures.0 c.in_ok-end.ensures.1 refl refl }

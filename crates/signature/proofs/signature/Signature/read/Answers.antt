@@ -21,10 +21,10 @@ none_case (Some x) P Q h k = absurd (false≢true (sym h))
 filled : (xs : List ℕ) → false ≡ eqb (length xs) 0 → xs ≡ [] → ⊥
 filled xs h e = eqb-false (length xs) 0 (sym h) (ap length e)
 
-pub returns-in-default : goal.returns-in-default
-returns-in-default c = record {
+pub returns-in_default : goal.returns-in_default
+returns-in_default c = record {
   outcome = refused c.args.text.now c.args.text.now [] 0 (omega arith) refl (λ i j d lt within. absurd (omega arith))
-      (λ size. inl (record { few = omega arith; more = λ e. refl; bad = λ l after s e. c.in-default.ensures l after (last_well [] l s) e }));
+      (λ size. inl (record { few = omega arith; more = λ e. refl; bad = λ l after s e. c.in_default.ensures l after (last_well [] l s) e }));
   once = once;
 }
 
@@ -44,8 +44,8 @@ returns-then-count-eq64 c =
       once = once;
     }
 
-pub returns-in-default-first_line : goal.returns-in-default-first_line
-returns-in-default-first_line c =
+pub returns-in_default-first_line : goal.returns-in_default-first_line
+returns-in_default-first_line c =
     let inv = c.loop-rest.invariant in
     let ls = map line_of (take c.loop-rest.count c.loop-rest.symbols) in
     record {
@@ -53,7 +53,7 @@ returns-in-default-first_line c =
           (λ size. inl (record {
             few = omega (arith, c.if-count-eq64.false);
             more = λ e. absurd (filled c.loop-rest.rest.now c.loop-rest-test.ensures e);
-            bad = λ l after s e. c.in-default-first_line.ensures l after (last_well ls l s) e;
+            bad = λ l after s e. c.in_default-first_line.ensures l after (last_well ls l s) e;
           }));
       once = once;
     }
@@ -91,9 +91,6 @@ loop-rest-preserved c =
     let absent = none_case _ (Absent c.bytes.result.now (names ss)) (λ k. (k < length ss) × (get_or (names ss) k [] ≡ c.bytes.result.now)) (sym c.if-is_some.ensures) c.position.ensures in
     let line = c.in-Some-first_line.ensures.0 ∙ ap (λ r. text_of (line_of y) ++ r) (sym (take_rest rest len)) in
     (omega arith, few, length-set symbols count y ∙ inv.2, text_more symbols count y fits c.args.text.now rest _ inv.3 line, apart_more symbols count y fits inv.4 (rw spelling at absent))
-
-pub invariant-of-result : goal.invariant-of-result
-invariant-of-result c = let inv = c.loop-rest.invariant in (inv.2, (inv.0, (inv.1, (∣ inv.4 ∣₁, tt))))
 
 pub returns : goal.returns
 returns c =

@@ -23,8 +23,8 @@ give_back-requires c =
     c.relink.new.nodes c.relink.new.marks c.follow-first.result c.next_at-next.result c.follow-first.ensures c.next_at-next.ensures c.relink.ensures.nodes c.relink.ensures.marks in
     record { hangs = h.hangs; kept = h.kept }
 
-pub overflow-sub-self : goal.overflow-sub-self
-overflow-sub-self c = some_row c.args.self.now c.args.pattern.now c.args.number c.nodes.result.now c.nodes.ensures c.in-There.cut c.in-There.ensures
+pub overflow_sub-self : goal.overflow_sub-self
+overflow_sub-self c = some_row c.args.self.now c.args.pattern.now c.args.number c.nodes.result.now c.nodes.ensures c.in-There.cut c.in-There.ensures
 
 pub invariant-of-self-in-There : goal.invariant-of-self-in-There
 invariant-of-self-in-There c =

@@ -14,4 +14,4 @@ pub loop-at-preserved : goal.loop-at-preserved
 loop-at-preserved c = (back c.loop-at.nodes c.loop-at.marks _ c.in-Some.v c.loop-at.at c.in-Some.is c.loop-at.invariant).rest
 
 pub returns : goal.returns
-returns c = all_back c.loop-at.nodes c.loop-at.marks _ c.loop-at.at c.in-default.is c.loop-at.invariant
+returns c = all_back c.loop-at.nodes c.loop-at.marks _ c.loop-at.at c.in_default.is c.loop-at.invariant

@@ -18,8 +18,8 @@ returns-then-at-row c =
     turn_end c.args.nodes.now c.args.root _ c.args.row.now c.args.number c.loop-v.link c.loop-v.cut c.loop-v.at c.in-Some.v c.loop-v.invariant c.follow.result c.follow.ensures c.in-Some.is c.label_at.result c.label_at.ensures c.same.result c.cut_at-cut.result
     c.same.ensures c.if-same.true c.if-at-row.true c.cut_at-cut.ensures
 
-pub overflow-add-at : goal.overflow-add-at
-overflow-add-at c =
+pub overflow_add-at : goal.overflow_add-at
+overflow_add-at c =
     let len = labels_length c.args.row.now c.args.number in
     let le : c.loop-v.at ≤ length c.args.row.now = omega (arith, c.loop-v.invariant.within) in
     let inside : c.loop-v.at < length c.args.row.now = below_other le c.if-at-row.false in
@@ -42,4 +42,4 @@ pub loop-v-preserved : goal.loop-v-preserved
 loop-v-preserved c = (turn_right c.args.nodes.now c.args.root _ c.args.row.now c.args.number c.loop-v.link c.loop-v.cut c.loop-v.at c.in-Some.v c.loop-v.invariant c.follow.result c.follow.ensures c.in-Some.is c.label_at.result c.label_at.ensures c.same.result c.same.ensures c.if-same.false).seeking
 
 pub returns : goal.returns
-returns c = missing c.args.nodes.now c.args.root _ (labels c.args.row.now c.args.number) c.loop-v.link c.loop-v.cut c.loop-v.at c.loop-v.invariant (sym c.follow.ensures ∙ c.in-default.is)
+returns c = missing c.args.nodes.now c.args.root _ (labels c.args.row.now c.args.number) c.loop-v.link c.loop-v.cut c.loop-v.at c.loop-v.invariant (sym c.follow.ensures ∙ c.in_default.is)
