@@ -1,13 +1,11 @@
 // A cell of a bank: a variable, or a symbol with the cells of its arguments.
 ghost use Rattle.std.specs.Prelude.{◌≡◌, Decides};
-ghost use Rattle.std.specs.Cmp.Rules.{comparing};
-ghost use Rattle.std.proofs.Common.{rules};
-ghost use Rattle.std.specs.Cmp as Keys;
+ghost use Rattle.bank.specs.Equal.{cell_eq, cell_eq_equiv, cell_eq_laws, cell_exact};
 
 use lent_list::Exact;
 
 // The slots of `args` past the arity are 0 in a bank that keeps its rules, so that equal cells are equal records.
-#[derive(Clone, Copy, Eq)]
+#[derive(Clone, Copy)]
 pub enum Cell {
     Var(u8),
     App {
@@ -18,9 +16,9 @@ pub enum Cell {
 }
 
 impl PartialEq for Cell {
-    ghost equals = { λ x y b. Decides b (x ≡ y) };
+    ghost eq = { cell_eq };
 
-    ghost laws = { Keys.partial_equiv_from_equiv (Prim.search (comparing, rules)) };
+    ghost laws = { cell_eq_laws };
 
     fn eq(&self, other: &Cell) -> bool {
         match (*self, *other) {
@@ -42,8 +40,12 @@ impl PartialEq for Cell {
     }
 }
 
+impl Eq for Cell {
+    ghost laws = { cell_eq_equiv };
+}
+
 impl Exact for Cell {
-    ghost exact = { Prim.search rules };
+    ghost exact = { cell_exact };
 }
 
 fn same_args(a: [u16; 4], b: [u16; 4]) -> bool

@@ -1,6 +1,6 @@
 -- The order by size keeps the laws of a reduction order: a cell is a weight of 1.
 use Rattle.std.specs.Prelude.{◌≡◌, ℕ, ◌+◌, ◌≤◌, refl}
-use Rattle.std.proofs.Common.{ap, ap₂, arith}
+use Rattle.std.proofs.Common.{ap₂, arith}
 use mathlib.Core.WellFounded.InvImage
 use mathlib.Core.WellFounded.Subrelation
 use lib.WfN.{lt-wf_rel}

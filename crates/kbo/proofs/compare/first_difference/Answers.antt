@@ -2,7 +2,6 @@ use Rattle.std.proofs.Common.{◌≡◌, ℕ, ◌-◌, ◌<◌, sym, ◌∙◌, 
 use Rattle.std.proofs.lemmas.Bool.{both_ways}
 use Rattle.rewriting.specs.Kbo.{KboLex}
 use Rattle.rewriting.proofs.KboCases.{skip, unskip, differ, decided, lex_none}
-use Rattle.rewriting.specs.Replace.{args}
 use Rattle.subterms.specs.Places.{from, at}
 use Rattle.subterms.specs.Rows.{row_of}
 use Rattle.subterms.proofs.Preorders.{first, width_first}

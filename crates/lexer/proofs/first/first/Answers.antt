@@ -11,7 +11,7 @@ returns-in-Some c =
     let two : 1 < length xs = search rules in
     let slash : get_or xs 0 0 ≡ 47 = search rules in
     let star : get_or xs 1 0 ≡ 42 = search rules in
-    ap block (sym c.in-Some.is ∙ c.block-length.ensures.is) ∙ sym (first_block xs two slash star)
+    ap block (sym c.in-Some.is ∙ c.block_length.ensures.is) ∙ sym (first_block xs two slash star)
 
 pub returns-in-None : goal.returns-in-None
 returns-in-None c =
@@ -19,7 +19,7 @@ returns-in-None c =
     let two : 1 < length xs = search rules in
     let slash : get_or xs 0 0 ≡ 47 = search rules in
     let star : get_or xs 1 0 ≡ 42 = search rules in
-    ap block (sym c.in-None.is ∙ c.block-length.ensures.is) ∙ sym (first_block xs two slash star)
+    ap block (sym c.in-None.is ∙ c.block_length.ensures.is) ∙ sym (first_block xs two slash star)
 
 pub returns-in-97-to-122 : goal.returns-in-97-to-122
 returns-in-97-to-122 c =

@@ -31,8 +31,8 @@ overflow_add-bytes c =
     let m = moved c.args.text.now c.loop-place.place _ c.loop-place-test.true c.in-Piece.ensures in
     omega (arith, m.1.1)
 
-pub slice-bounds-bytes-end : goal.slice-bounds-bytes-end
-slice-bounds-bytes-end c =
+pub slice_bounds-bytes-end : goal.slice_bounds-bytes-end
+slice_bounds-bytes-end c =
     let m = moved c.args.text.now c.loop-place.place _ c.loop-place-test.true c.in-Piece.ensures in
     omega (arith, m.1.1)
 

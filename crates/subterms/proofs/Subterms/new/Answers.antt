@@ -1,9 +1,8 @@
-use Rattle.std.proofs.Common.{◌≡◌, ℕ, ◌+◌, ◌<◌, ◌≤◌, ◌≢◌, List, [], ◌∷◌, ◌++◌, length, get_or, take, sym, ap, ◌∙◌, arith, below_more}
+use Rattle.std.proofs.Common.{◌≡◌, ℕ, ◌<◌, ◌≤◌, ◌≢◌, List, [], ◌∷◌, ◌++◌, length, get_or, take, sym, ap, ◌∙◌, arith, below_more}
 use Rattle.std.proofs.lemmas.List.{take_more_set, take_more, take_all, length-set, get_or-set_same, get_or-set_other}
 use Rattle.terms.specs.Preorder.{Whole}
 use Rattle.terms.specs.declared.pattern.Node.{Node}
 use Rattle.terms.specs.declared.pattern.Node.TheVariants.{Var}
-use Rattle.subterms.specs.Places.{at}
 use Rattle.subterms.proofs.Patterns.{pattern_short}
 use Rattle.subterms.proofs.Subterms.new.Goals as goal
 use Rattle.subterms.proofs.Subterms.new.Goals.{After-loop-p}
@@ -30,11 +29,17 @@ copied c =
     let end : c.loop-p.p ≡ length row = omega arith in
     ap (λ (k : ℕ). take k c.loop-p.nodes) (sym end) ∙ c.loop-p.invariant.2 ∙ ap (λ (k : ℕ). take k row) end ∙ take_all (length row) row (omega arith)
 
-pub invariant-of-result : goal.invariant-of-result
-invariant-of-result c =
+pub invariant_of-result : goal.invariant_of-result
+invariant_of-result c =
     let row = c.nodes-row.result.now in
     let whole : Whole row = rw c.nodes-row.ensures c.args.pattern.now.whole in
-    (c.loop-p.invariant.0, (c.loop-p.invariant.1, (omega (arith, ap length c.nodes-row.ensures, pattern_short c.args.pattern.now), (rw (copied c) whole, (λ k h. rw (copied c) (c.loop-p.invariant.3 k (omega arith)), tt)))))
+    record {
+      room = c.loop-p.invariant.0;
+      room_ends = c.loop-p.invariant.1;
+      short = omega (arith, ap length c.nodes-row.ensures, pattern_short c.args.pattern.now);
+      whole = rw (copied c) whole;
+      ended = λ k h. rw (copied c) (c.loop-p.invariant.3 k (omega arith));
+    }
 
 pub returns : goal.returns
 returns c = copied (goal.at.returns c).After-loop-p ∙ c.nodes-row.ensures

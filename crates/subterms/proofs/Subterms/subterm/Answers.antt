@@ -2,8 +2,8 @@ use Rattle.std.proofs.Common.{arith}
 use Rattle.subterms.proofs.Tables.{end_most, part_is}
 use Rattle.subterms.proofs.Subterms.subterm.Goals as goal
 
-pub slice-bounds-result-end : goal.slice-bounds-result-end
-slice-bounds-result-end c = omega (arith, end_most c.args.self.now c.args.p c.if-p-self.true, c.args.self.now.short)
+pub slice_bounds-result-end : goal.slice_bounds-result-end
+slice_bounds-result-end c = omega (arith, end_most c.args.self.now c.args.p c.if-p-self.true, c.args.self.now.short)
 
 pub returns-then-p-self : goal.returns-then-p-self
 returns-then-p-self c = record {

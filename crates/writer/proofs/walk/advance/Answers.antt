@@ -1,4 +1,4 @@
-use Rattle.std.proofs.Common.{◌≡◌, ◌+◌, ◌-◌, ◌∷◌, ◌++◌, get_or, sym, ap, ◌∙◌, arith}
+use Rattle.std.proofs.Common.{◌≡◌, ◌-◌, ◌∷◌, ◌++◌, get_or, sym, ap, ◌∙◌, arith}
 use Rattle.std.proofs.lemmas.List.{length-set, take-set}
 use Rattle.writer.proofs.Walking.{blank, opened, top_counted, small_variable, standing, push_room, mark_at, mark_first, mark_later, var_turn, symbol_alone, symbol_first, going_on, close_turn, argument_turn}
 use Rattle.writer.proofs.walk.advance.Goals as goal

@@ -10,8 +10,8 @@ loop-state-preserved c =
     let text = c.args.text.now in
     let token = c.in_ok-token.token in
     let P : Option Token → Type 0 = Next text c.loop-state.end in
-    let found : Next text c.loop-state.end (Some token) = subst P c.in_ok-token.ensures.ok-part c.next_token.ensures in
-    let step : next c.loop-state.state (lexeme_of token) ≡ Some c.in_ok-state.state = sym c.next.ensures ∙ c.in_ok-state.ensures.ok-part in
+    let found : Next text c.loop-state.end (Some token) = subst P c.in_ok-token.ensures.ok_part c.next_token.ensures in
+    let step : next c.loop-state.state (lexeme_of token) ≡ Some c.in_ok-state.state = sym c.next.ensures ∙ c.in_ok-state.ensures.ok_part in
     let deep = next_depth c.loop-state.state c.in_ok-state.state (lexeme_of token) step in
     (sym (walk_more c.loop-state.state c.in_ok-state.state c.loop-state.end (lexeme_of token) _ _ _ (sym c.loop-state-test.ensures) step found.0) ∙ c.loop-state.invariant.0, omega (arith, deep, found.1, c.loop-state.invariant.1), omega (arith, found.1, c.loop-state.invariant.2), λ _. found.2)
 
