@@ -1,8 +1,7 @@
 -- What the nodes of a row say of its terms.
-use Rattle.std.proofs.Common.{◌≡◌, ℕ, zero, suc, true, ◌&&◌, ltb, List, [], ◌∷◌, is_some, Some, None, Option, unwrap_or, sym, refl, ap, ◌∙◌, subst, ap₂, arith}
+use Rattle.std.proofs.Common.{◌≡◌, ℕ, true, ◌&&◌, ltb, List, [], ◌∷◌, is_some, Some, None, Option, unwrap_or, sym, refl, ap, subst, ap₂, arith}
 use Rattle.std.proofs.lemmas.Bool.{and_parts, ltb-true, false≢true}
 use Rattle.terms.specs.Term.{Term, Terms, var, app, nil, ◌▹◌, sub, subs}
-use Rattle.terms.specs.Sig.{Sig, Over, AllOver}
 use Rattle.terms.specs.Preorder.{row, alone, all_small}
 use Rattle.terms.specs.Patterns.{nodes_of, term_of}
 use Rattle.terms.specs.declared.pattern.Pattern.{Pattern}

@@ -5,6 +5,7 @@ use Rattle.terms.specs.Sig.{Sig}
 use Rattle.bank.specs.declared.cell.Cell.{Cell}
 use Rattle.bank.specs.Rules.{Rules}
 use Rattle.bank.specs.Means.{Means}
+pub use Rattle.bank.specs.Bindings.{Binds}
 
 -- s is t or stands in it
 abbrev mutual

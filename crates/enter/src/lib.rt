@@ -2,7 +2,7 @@
 #![tactic(auto)]
 
 ghost use Rattle.std.specs.Prelude.{◌≡◌, ◌≤◌, length, take, None};
-ghost use Rattle.enter.specs.Enter.{note as noted-once};
+ghost use Rattle.enter.specs.Enter.{note as noted_once};
 ghost use Rattle.enter.specs.Machine.{Gives, Grew};
 ghost use Rattle.enter.specs.Outcome.{Entered, Laid};
 
@@ -71,7 +71,7 @@ pub fn enter_instance(
 
 // One cell: where it stands among the counted cells, or the next free one. A bank outside its limits takes none.
 pub fn enter_cell(cells: &mut [Cell], count: &mut Count, cell: Cell) -> Option<u16>
-    ensures gives { count.old.len ≤ length cells.old → length cells.old ≤ 2048 → Gives (noted-once (length cells.old) cell (take count.old.len cells.old)) result cells.new count.new.len }
+    ensures gives { count.old.len ≤ length cells.old → length cells.old ≤ 2048 → Gives (noted_once (length cells.old) cell (take count.old.len cells.old)) result cells.new count.new.len }
     ensures grew { count.old.len ≤ length cells.old → Grew cells.old count.old.len cells.new count.new.len }
     ensures refuses { ((count.old.len ≤ length cells.old) × (length cells.old ≤ 2048) → ⊥) → (result ≡ None) × (cells.new ≡ cells.old) × (count.new ≡ count.old) }
 {

@@ -7,7 +7,7 @@ use Rattle.refusal.specs.declared.Refusal.{Refusal}
 use Rattle.terms.specs.Sig.{Sig}
 use Rattle.bank.specs.declared.cell.Cell.{Cell}
 use Rattle.index.specs.Maps.{Map, Same}
-use Rattle.index.specs.Found.{Generalizes, Generalizations}
+use Rattle.index.specs.Found.{Generalizations}
 use Rattle.index.specs.Questions.{Asked, MayAsk}
 use Rattle.index.specs.Agreement.{Agree}
 use Rattle.index.proofs.Asking.{asked}

@@ -17,7 +17,7 @@ pub trait ExactIndex: Index {
     // As `retrieve` is asked, and exact.
     fn retrieve_exact(&self, bank: &[Cell], cell: u16, list: &mut [u16], found: &mut Count)
         ensures within { found.new.len ≤ length list.new }
-        ensures finds { (S : Sig) → Asked S bank.now cell ExactIndex.Limit.Limited.most list.old → Generalizations (Self.Index.stored self.now) bank.now cell (take found.new.len list.new) };
+        ensures finds { (S : Sig) → Asked S bank.now cell Self.Limit.most list.old → Generalizations (Self.Index.stored self.now) bank.now cell (take found.new.len list.new) };
 
     // As `candidates` is asked, and exact.
     fn generalizations(
@@ -29,7 +29,7 @@ pub trait ExactIndex: Index {
         list: &mut [u16],
         found: &mut Count,
     ) -> Result<(), Refusal>
-        ensures { Answered (sig_of signature.now) cells.now count.now.len cell ExactIndex.Limit.Limited.most list.old found.old.len list.new found.new.len (Generalizations (Self.Index.stored self.now)) result }
+        ensures { Answered (sig_of signature.now) cells.now count.now.len cell Self.Limit.most list.old found.old.len list.new found.new.len (Generalizations (Self.Index.stored self.now)) result }
     {
         check_question(
             signature,

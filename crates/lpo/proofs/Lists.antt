@@ -1,5 +1,5 @@
 -- Two lists of arguments, and what is left of them behind equal first ones.
-use Rattle.std.proofs.Common.{◌≡◌, sym, ap, ◌∙◌, ap₂}
+use Rattle.std.proofs.Common.{◌≡◌, sym, ◌∙◌, ap₂}
 use Rattle.terms.specs.Term.{Term, Terms, ◌▹◌, width, cons_tail, cons_head}
 use Rattle.rewriting.specs.Lpo.{Lpo, LpoLex}
 use Rattle.rewriting.proofs.LpoCases.{skip, unskip, differ, decided}

@@ -4,8 +4,8 @@ use Rattle.enter.proofs.Machining.{has_node, push_room, var_holding, var_left, a
 use Rattle.enter.proofs.Noting.{grew_same}
 use Rattle.enter.proofs.machine.take_node.Goals as goal
 
-pub offset-bounds-nodes-at : goal.offset-bounds-nodes-at
-offset-bounds-nodes-at c = let l = has_node c.requires.ready c.requires.waits in omega (arith, c.requires.ready.few)
+pub offset_bounds-nodes-at : goal.offset_bounds-nodes-at
+offset_bounds-nodes-at c = let l = has_node c.requires.ready c.requires.waits in omega (arith, c.requires.ready.few)
 
 pub bounds-nodes-at : goal.bounds-nodes-at
 bounds-nodes-at c = has_node c.requires.ready c.requires.waits

@@ -1,4 +1,4 @@
-use Rattle.std.proofs.Common.{get_or, refl, subst, arith}
+use Rattle.std.proofs.Common.{refl, subst, arith}
 use Rattle.std.proofs.lemmas.Bool.{false≢true}
 use Rattle.lists.specs.Members.{In}
 use Rattle.lists.proofs.Members.{in_at, place}

@@ -1,5 +1,4 @@
-use Rattle.std.proofs.Common.{◌≡◌, ℕ, ◌-◌, sym, refl, ◌∙◌, subst, arith}
-use Rattle.rewriting.specs.Replace.{args}
+use Rattle.std.proofs.Common.{◌≡◌, ℕ, sym, refl, ◌∙◌, subst, arith}
 use Rattle.subterms.specs.Places.{from}
 use Rattle.subterms.proofs.Preorders.{first, width_first}
 use Rattle.subterms.proofs.Tables.{args_are, next_arg, some_left, end_past}
@@ -40,14 +39,14 @@ returns-in-Neither c =
     let not = c.in-Neither.ensures in
     left_not _ _ _ _ _ _ _ _ s.0 t.0 inv.4 not.0 not.1
 
-pub offset-bounds-self-i : goal.offset-bounds-self-i
-offset-bounds-self-i c = omega (arith, some_left c.args.self.now.upper c.loop-left.i c.loop-left.left c.loop-left-test.true c.loop-left.invariant.2, c.args.self.now.upper.short)
+pub offset_bounds-self-i : goal.offset_bounds-self-i
+offset_bounds-self-i c = omega (arith, some_left c.args.self.now.upper c.loop-left.i c.loop-left.left c.loop-left-test.true c.loop-left.invariant.2, c.args.self.now.upper.short)
 
 pub bounds-self-i : goal.bounds-self-i
 bounds-self-i c = omega (arith, some_left c.args.self.now.upper c.loop-left.i c.loop-left.left c.loop-left-test.true c.loop-left.invariant.2, c.args.self.now.upper.short)
 
-pub offset-bounds-self-j : goal.offset-bounds-self-j
-offset-bounds-self-j c = omega (arith, some_left c.args.self.now.lower c.loop-left.j c.loop-left.left c.loop-left-test.true c.loop-left.invariant.3, c.args.self.now.lower.short)
+pub offset_bounds-self-j : goal.offset_bounds-self-j
+offset_bounds-self-j c = omega (arith, some_left c.args.self.now.lower c.loop-left.j c.loop-left.left c.loop-left-test.true c.loop-left.invariant.3, c.args.self.now.lower.short)
 
 pub bounds-self-j : goal.bounds-self-j
 bounds-self-j c = omega (arith, some_left c.args.self.now.lower c.loop-left.j c.loop-left.left c.loop-left-test.true c.loop-left.invariant.3, c.args.self.now.lower.short)

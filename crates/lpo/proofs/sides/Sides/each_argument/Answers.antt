@@ -1,4 +1,4 @@
-use Rattle.std.proofs.Common.{◌≡◌, ℕ, ◌-◌, sym, refl, subst, arith}
+use Rattle.std.proofs.Common.{◌≡◌, ℕ, sym, refl, subst, arith}
 use Rattle.std.proofs.lemmas.Bool.{false≢true}
 use Rattle.rewriting.specs.Lpo.{Lpo, LpoAll}
 use Rattle.rewriting.proofs.LpoCases.{irreflexive, all_more, all_has, all_rest}
@@ -33,8 +33,8 @@ returns-in-Neither c =
     let n = next_arg b.lower c.loop-left.j c.loop-left.left c.loop-left-test.true c.loop-left.invariant.1 in
     (λ e. absurd (false≢true e), λ h. absurd (c.in-Neither.ensures.0 (all_has _ _ _ _ n.0 (c.loop-left.invariant.2 h))))
 
-pub offset-bounds-self-j : goal.offset-bounds-self-j
-offset-bounds-self-j c = omega (arith, some_left c.args.self.now.lower c.loop-left.j c.loop-left.left c.loop-left-test.true c.loop-left.invariant.1, c.args.self.now.lower.short)
+pub offset_bounds-self-j : goal.offset_bounds-self-j
+offset_bounds-self-j c = omega (arith, some_left c.args.self.now.lower c.loop-left.j c.loop-left.left c.loop-left-test.true c.loop-left.invariant.1, c.args.self.now.lower.short)
 
 pub bounds-self-j : goal.bounds-self-j
 bounds-self-j c = omega (arith, some_left c.args.self.now.lower c.loop-left.j c.loop-left.left c.loop-left-test.true c.loop-left.invariant.1, c.args.self.now.lower.short)

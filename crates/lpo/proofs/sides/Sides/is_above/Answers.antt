@@ -4,7 +4,7 @@ use Rattle.rewriting.specs.Lpo.{Lpo}
 use Rattle.rewriting.proofs.LpoCases.{irreflexive}
 use Rattle.subterms.specs.Places.{at}
 use Rattle.subterms.proofs.Tables.{row_some}
-use Rattle.lpo.specs.Seen.{up, low}
+use Rattle.lpo.specs.Seen.{low}
 use Rattle.lpo.proofs.sides.Sides.is_above.Goals as goal
 
 pub pair-requires : goal.pair-requires

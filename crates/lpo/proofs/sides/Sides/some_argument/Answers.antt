@@ -1,4 +1,4 @@
-use Rattle.std.proofs.Common.{◌≡◌, ℕ, ◌-◌, sym, refl, subst, arith}
+use Rattle.std.proofs.Common.{◌≡◌, ℕ, sym, refl, subst, arith}
 use Rattle.std.proofs.lemmas.Bool.{false≢true}
 use Rattle.rewriting.specs.Lpo.{LpoSome}
 use Rattle.rewriting.proofs.LpoCases.{some_none, some_equal, some_above, some_later, some_skip}
@@ -30,8 +30,8 @@ returns-in-Equal c =
     let n = next_arg c.args.self.now.upper c.loop-left.i c.loop-left.left c.loop-left-test.true c.loop-left.invariant.1 in
     (λ _. c.loop-left.invariant.3 (some_equal _ _ _ _ n.0 c.in-Equal.ensures), λ _. refl)
 
-pub offset-bounds-self-i : goal.offset-bounds-self-i
-offset-bounds-self-i c = omega (arith, some_left c.args.self.now.upper c.loop-left.i c.loop-left.left c.loop-left-test.true c.loop-left.invariant.1, c.args.self.now.upper.short)
+pub offset_bounds-self-i : goal.offset_bounds-self-i
+offset_bounds-self-i c = omega (arith, some_left c.args.self.now.upper c.loop-left.i c.loop-left.left c.loop-left-test.true c.loop-left.invariant.1, c.args.self.now.upper.short)
 
 pub bounds-self-i : goal.bounds-self-i
 bounds-self-i c = omega (arith, some_left c.args.self.now.upper c.loop-left.i c.loop-left.left c.loop-left-test.true c.loop-left.invariant.1, c.args.self.now.upper.short)
