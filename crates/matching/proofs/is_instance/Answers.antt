@@ -1,4 +1,4 @@
-use Rattle.std.proofs.Common.{ℕ, ◌<◌, true, List, length, is_some, Some, None, Decides, Option, refl}
+use Rattle.std.proofs.Common.{ℕ, ◌<◌, List, length, is_some, Some, None, Decides, Option, refl}
 use Rattle.std.proofs.lemmas.Bool.{false≢true}
 use Rattle.std.proofs.lemmas.Bool.Decides.{Decides-at}
 use Rattle.terms.specs.Sig.{Sig}

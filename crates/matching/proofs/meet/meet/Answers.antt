@@ -8,14 +8,14 @@ returns-then-cell-bank c =
     let st = c.args.pending.now in
     met_outside c.args.bank.now c.args.bindings.now c.args.bindings.now st st c.args.depth c.requires.some (omega (arith, c.requires.deep, c.requires.room)) c.args.node c.if-cell-bank.true
 
-pub returns-in_err-args : goal.returns-in_err-args
-returns-in_err-args c =
+pub returns-in_err-args-in-App : goal.returns-in_err-args-in-App
+returns-in_err-args-in-App c =
     let b = c.args.bank.now in
     let θ = c.args.bindings.now in
     let st = c.args.pending.now in
     let d = c.args.depth in
     subst (Met b c.args.node θ st d θ st) (sym c.from_residual.ensures)
-    (met_unlike b θ θ st st d c.requires.some (omega (arith, c.requires.deep, c.requires.room)) c.args.node c.in-App.symbol c.in-App.arity c.in-App.is c.in_err-args.ensures)
+    (met_unlike b θ θ st st d c.requires.some (omega (arith, c.requires.deep, c.requires.room)) c.args.node c.in-App.symbol c.in-App.arity c.in-App.is c.in_err-args-in-App.ensures)
 
 pub returns-then-place : goal.returns-then-place
 returns-then-place c =
@@ -29,8 +29,8 @@ returns-else-place c =
     met_other c.args.bank.now c.args.bindings.now c.place.new.bindings st st c.args.depth c.requires.some (omega (arith, c.requires.deep, c.requires.room))
     c.args.node c.in-Var.x c.in-Var.is c.if-place.ensures
 
-pub returns-in_ok-args : goal.returns-in_ok-args
-returns-in_ok-args c =
+pub returns-in_ok-args-in-App : goal.returns-in_ok-args-in-App
+returns-in_ok-args-in-App c =
     let θ = c.args.bindings.now in
     met_app c.args.bank.now θ θ c.args.pending.now c.push.new.pending c.args.depth c.requires.some (omega (arith, c.requires.deep, c.requires.room))
-    c.args.node c.in-App.symbol c.in-App.arity c.in_ok-args.args c.in-App.is c.if-cell-bank.false c.in_ok-args.ensures c.push.ensures
+    c.args.node c.in-App.symbol c.in-App.arity c.in_ok-args-in-App.args c.in-App.is c.if-cell-bank.false c.in_ok-args-in-App.ensures c.push.ensures
