@@ -75,7 +75,7 @@ mod tests {
         let Some(field) = cut(b"a b c", b' ') else {
             return Err(Fail::new("no space"));
         };
-        assert!(rt; field.bytes == b"a" && field.after == b"b c");
+        assert!(rt; field.bytes == b"a".as_slice() && field.after == b"b c".as_slice());
         assert!(rt; cut(b"abc", b' ').is_none());
         Ok(())
     }

@@ -1,28 +1,22 @@
 -- The outcome of reading, at each of its ends.
-use Rattle.std.proofs.Common.{◌≡◌, ℕ, List, [], ◌∷◌, length, take, drop, Some, None, Ok, Err, Option, Result, sym, refl, ap, ◌∙◌, subst, MatchOption}
+use Rattle.std.proofs.Common.{◌≡◌, ℕ, List, [], length, take, drop, Some, None, Ok, Err, Option, Result, sym, ap, ◌∙◌, subst, MatchOption}
 use Rattle.refusal.specs.declared.Refusal.{Refusal}
 use Rattle.refusal.specs.declared.Refusal.TheVariants.{Symbol, Size}
-use Rattle.terms.specs.Sig.{Over}
 use Rattle.terms.specs.Preorder.{Fits}
-use Rattle.terms.specs.Patterns.{nodes_of, term_of}
+use Rattle.terms.specs.Patterns.{nodes_of}
 use Rattle.terms.specs.declared.pattern.Node.{Node}
 use Rattle.terms.specs.declared.pattern.Pattern.{Pattern}
-use Rattle.signature.specs.Signatures.{sig_of}
 use Rattle.signature.specs.declared.signature.Signature.{Signature}
 use Rattle.lexer.specs.Tokens.{Lexeme, tokens, tokens_from}
 use Rattle.grammar.specs.Syntax.{Parsed, Formula}
 use Rattle.grammar.specs.Outcomes.{Checked}
 use Rattle.formula.specs.Uses.{NoneMisused}
 use Rattle.formula.specs.Scans.{scan}
-use Rattle.formula.specs.Numbering.{Sides, resolved}
 use Rattle.formula.specs.Rows.{Row, row_of, names_in, spanned}
-use Rattle.formula.specs.Roles.{role_first, sign_first, role_named, sign_of}
-use Rattle.formula.specs.Laying.{nodes_in}
+use Rattle.formula.specs.Roles.{role_first, sign_first}
 use Rattle.formula.specs.Outcomes.{Outcome, ungrammatical, unknown, too_large, read, all_uses}
 use Rattle.formula.specs.declared.equation.Equation.{Equation}
-use Rattle.formula.specs.declared.side.Side.{Side}
 use Rattle.formula.specs.declared.variables.Variables.{Variables}
-use Rattle.formula.proofs.Tables.{names_size}
 use Rattle.formula.proofs.Meaning.{checked_ok, parts, unknown_at, all_known, left_large, left_row, Rows, right_large, both, left_nodes, right_nodes, left_fits, right_fits, left_over, right_over, pattern_term}
 
 pub refused : (s : Signature) (text : List ℕ) (r : Result Equation Refusal) (f : Refusal) → r ≡ Err f → Checked text (Err f) → Outcome s text r

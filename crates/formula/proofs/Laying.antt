@@ -4,10 +4,9 @@ use Rattle.terms.specs.declared.pattern.Node.{Node}
 use Rattle.terms.specs.declared.pattern.Node.TheVariants.{Var}
 use Rattle.signature.specs.declared.signature.Signature.{Signature}
 use Rattle.lexer.specs.Tokens.{Lexeme}
-use Rattle.lexer.specs.declared.token.Kind.{Kind}
-use Rattle.lexer.specs.declared.token.Kind.TheVariants.{Word, Variable, Open, Close, Comma, Dot, Equal, Unequal, Stray}
+use Rattle.lexer.specs.declared.token.Kind.TheVariants.{Variable, Open, Close, Comma, Dot, Equal, Unequal}
 use Rattle.grammar.specs.Kinds.{same_kind}
-use Rattle.grammar.specs.Syntax.{Tree, Trees, leaf, node, nil, ◌▹◌, Term, Args, variable, constant, applied, last, more, Literal, Sides, sides, Body, bare, wrapped, Is}
+use Rattle.grammar.specs.Syntax.{Tree, Trees, Term, Args, variable, constant, applied, last, more, Literal, Sides, sides, Body, bare, wrapped, Is}
 use Rattle.formula.specs.Symbols.{index_of, symbol_of}
 use Rattle.formula.specs.Numbering.{cells, cellss, laid, with_name}
 use Rattle.formula.specs.Rows.{Row, row_of}

@@ -1,5 +1,5 @@
 -- From what the passes over a formula's tokens find to what the formula says.
-use Rattle.std.proofs.Common.{◌≡◌, ℕ, ◌≤◌, true, ◌⊎◌, List, [], ◌∷◌, ◌++◌, length, drop, is_some, Some, None, Ok, Err, Result, unwrap_or, sym, refl, ap, ◌∙◌, subst, inl, inr, arith}
+use Rattle.std.proofs.Common.{◌≡◌, ℕ, ◌≤◌, List, [], ◌∷◌, length, drop, is_some, Some, None, Ok, Err, Result, unwrap_or, sym, refl, ap, ◌∙◌, arith}
 use Rattle.terms.specs.Term as terms
 use Rattle.terms.specs.Sig.{Over}
 use Rattle.terms.specs.Preorder.{preorder, decode, Fits}
@@ -9,20 +9,20 @@ use Rattle.terms.specs.declared.pattern.Pattern.{Pattern}
 use Rattle.terms.proofs.Rows.{decode_preorder}
 use Rattle.signature.specs.Signatures.{sig_of}
 use Rattle.signature.specs.declared.signature.Signature.{Signature}
-use Rattle.lexer.specs.Tokens.{Lexeme, tokens, tokens_from}
+use Rattle.lexer.specs.Tokens.{Lexeme, tokens}
 use Rattle.lexer.specs.declared.token.Kind.TheVariants.{Close, Dot}
 use Rattle.grammar.specs.Fits.{Complete}
 use Rattle.grammar.specs.Syntax.{Tree, Term, Literal, Sides, sides, Body, bare, wrapped, Parsed, Formula, formula, Is}
 use Rattle.grammar.specs.Outcomes.{Checked, fits}
 use Rattle.formula.specs.Uses.{uses, FirstMisused, NoneMisused}
 use Rattle.formula.specs.Scans.{scan}
-use Rattle.formula.specs.Numbering.{Sides as BothSides, cells, laid, both_laid, with_left, with_right, resolved}
+use Rattle.formula.specs.Numbering.{cells, laid, both_laid, with_left, with_right, resolved}
 use Rattle.formula.specs.Rows.{Row, row_of}
 use Rattle.formula.specs.Outcomes.{all_uses}
 use Rattle.formula.proofs.Lowest.{misuse, first_misused, none_misused}
 use Rattle.formula.proofs.Scanning.{body_scan}
 use Rattle.formula.proofs.Laying.{Pair, ended, Halves, body_halves}
-use Rattle.formula.proofs.Resolving.{ok_same, err_ok, term_laid, laid_within, over, none_left, none_right, Within, extends_same}
+use Rattle.formula.proofs.Resolving.{term_laid, laid_within, over, none_left, none_right, Within, extends_same}
 
 pub checked_ok : {text : List ℕ} → Checked text (Ok tt) → (length text ≤ 32768) × Complete (tokens text)
 checked_ok (fits h c) = (h, c)

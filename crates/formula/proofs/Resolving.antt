@@ -1,5 +1,5 @@
 -- The nodes of a side are the preorder of the term that is written there.
-use Rattle.std.proofs.Common.{◌≡◌, ℕ, zero, suc, ◌+◌, ◌<◌, ◌≤◌, Bool, true, false, cond, not, ◌&&◌, eqb, ltb, ◌⊎◌, List, [], ◌∷◌, ◌++◌, length, Some, None, Ok, Err, Option, Result, sym, refl, ap, ◌∙◌, subst, ap₂, inl, inr, append_assoc, append-nil, arith, length-append}
+use Rattle.std.proofs.Common.{◌≡◌, ℕ, suc, ◌+◌, ◌<◌, ◌≤◌, Bool, true, false, cond, ltb, ◌⊎◌, List, [], ◌∷◌, ◌++◌, length, Some, None, Ok, Err, Option, Result, sym, refl, ap, ◌∙◌, subst, inl, inr, append_assoc, append-nil, arith, length-append}
 use mathlib.Core.Bool.{false≢true}
 use Rattle.std.proofs.lemmas.Bool.{cases_Bool, cases_lt, cond-true, cond-false, lt-ltb, le-ltb, ltb-true, eqb-true, not-false, and_from, and_parts}
 use Rattle.terms.specs.Term as terms
@@ -19,7 +19,6 @@ use Rattle.grammar.proofs.Steps.{none_some, some_same}
 use Rattle.formula.specs.Symbols.{index_of, number_in, symbol_of}
 use Rattle.formula.specs.Uses.{Use, uses, usess, count, misused, Listed, here, later, NoneMisused}
 use Rattle.formula.specs.Numbering.{cells, cellss, laid, with_name, resolved, resolveds}
-use Rattle.formula.proofs.Tables.{index_within}
 use Rattle.formula.proofs.Laying.{Pair, on, laid_append}
 
 -- numbers stay as more names are met

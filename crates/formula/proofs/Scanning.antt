@@ -1,6 +1,6 @@
 -- Counting arguments over the tokens of a formula finds the misused symbols of its sides.
-use Rattle.std.proofs.Common.{◌≡◌, ℕ, ◌+◌, ◌<◌, ◌≤◌, Bool, true, false, cond, not, eqb, ltb, ◌⊎◌, List, [], ◌∷◌, ◌++◌, Some, None, Option, sym, refl, ap, ◌∙◌, ap₂, inl, inr, append-nil, arith}
-use Rattle.std.proofs.lemmas.Bool.{cases_lt, cond-true, cond-false, lt-ltb, le-ltb, ne_eqb, eq-eqb, cond_both}
+use Rattle.std.proofs.Common.{◌≡◌, ℕ, ◌+◌, ◌≤◌, Bool, true, false, cond, not, eqb, ltb, ◌⊎◌, List, [], ◌∷◌, ◌++◌, Some, None, Option, sym, refl, ap, ◌∙◌, ap₂, inl, inr, append-nil, arith}
+use Rattle.std.proofs.lemmas.Bool.{cond_both}
 use Rattle.std.proofs.lemmas.Bool.Decides.{nat_tests}
 use Rattle.terms.specs.declared.pattern.Node.{Node}
 use Rattle.terms.specs.declared.pattern.Node.TheVariants.{Var, App}
@@ -8,10 +8,10 @@ use Rattle.signature.specs.Signatures.{sig_of}
 use Rattle.signature.specs.declared.signature.Signature.{Signature}
 use Rattle.signature.proofs.Symbols.{arity_most_lem}
 use Rattle.lexer.specs.Tokens.{Lexeme}
-use Rattle.lexer.specs.declared.token.Kind.TheVariants.{Word, Variable, Open, Close, Comma, Dot, Equal, Unequal, Stray}
-use Rattle.grammar.specs.Syntax.{Tree, Trees, leaf, node, nil, ◌▹◌, Term, Args, variable, constant, applied, last, more, Literal, Sides, sides, Body, bare, wrapped, Is}
+use Rattle.lexer.specs.declared.token.Kind.TheVariants.{Close, Dot, Equal, Unequal}
+use Rattle.grammar.specs.Syntax.{Tree, Trees, Term, Args, variable, constant, applied, last, more, Literal, Sides, sides, Body, bare, wrapped, Is}
 use Rattle.formula.specs.Symbols.{symbol_of, number_in}
-use Rattle.formula.specs.Scans.{arity_code, arity_for, low, note, bumped, opens, scan}
+use Rattle.formula.specs.Scans.{arity_code, arity_for, note, bumped, opens, scan}
 use Rattle.formula.specs.Uses.{Use, uses, usess, count, misused}
 use Rattle.formula.specs.Outcomes.{all_uses}
 use Rattle.formula.specs.declared.frame.Frame.{Frame}

@@ -3,7 +3,7 @@ use Rattle.std.specs.Prelude.{◌≡◌, ℕ, ◌<◌, ◌≤◌, List, [], ◌�
 use Rattle.terms.specs.declared.pattern.Node.{Node}
 use Rattle.signature.specs.declared.signature.Signature.{Signature}
 use Rattle.lexer.specs.Tokens.{tokens_from}
-use Rattle.formula.specs.Rows.{Row, row_of, names_in}
+use Rattle.formula.specs.Rows.{row_of, names_in}
 use Rattle.formula.specs.declared.side.Side.{Side}
 use Rattle.formula.specs.declared.side.TooLarge.{TooLarge}
 use Rattle.formula.specs.declared.variables.Variables.{Variables}

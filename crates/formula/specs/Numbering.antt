@@ -1,8 +1,8 @@
 -- Variables get numbers by first occurrence, left side first; a side has at most 32 cells, a formula at most 16 variables.
-use Rattle.std.specs.Prelude.{ℕ, Bool, true, false, cond, List, [], ◌∷◌, ◌++◌, length, Some, None, Ok, Err, Option, Result, nat_lt}
+use Rattle.std.specs.Prelude.{ℕ, cond, List, [], ◌∷◌, ◌++◌, length, Some, None, Ok, Err, Result, nat_lt}
 use Rattle.terms.specs.Term as terms
 use Rattle.terms.specs.declared.pattern.Node.{Node}
-use Rattle.terms.specs.declared.pattern.Node.TheVariants.{Var, App}
+use Rattle.terms.specs.declared.pattern.Node.TheVariants.{Var}
 use Rattle.signature.specs.declared.signature.Signature.{Signature}
 use Rattle.lexer.specs.Tokens.{Lexeme}
 use Rattle.lexer.specs.declared.token.Kind.TheVariants.{Variable}

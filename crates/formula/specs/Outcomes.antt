@@ -6,7 +6,7 @@ use Rattle.terms.specs.Sig.{Over}
 use Rattle.terms.specs.Patterns.{term_of}
 use Rattle.signature.specs.Signatures.{sig_of}
 use Rattle.signature.specs.declared.signature.Signature.{Signature}
-use Rattle.lexer.specs.Tokens.{Lexeme, tokens}
+use Rattle.lexer.specs.Tokens.{tokens}
 use Rattle.grammar.specs.Syntax.{Parsed, Formula, Literal}
 use Rattle.grammar.specs.Outcomes.{Checked}
 use Rattle.formula.specs.Uses.{Use, uses, FirstMisused, NoneMisused}

@@ -7,10 +7,10 @@ use Rattle.signature.specs.Words.{lower, upper}
 use Rattle.lexer.specs.Tokens.{Lexeme, first, front_length, block_length_lem, block, blank, starts, mark, tokens, tokens_from}
 use Rattle.lexer.specs.Next.{end_of}
 use Rattle.lexer.specs.declared.token.Kind.{Kind}
-use Rattle.lexer.specs.declared.token.Kind.TheVariants.{Word, Variable, Open, Close, Comma, Dot, Equal, Unequal, Stray}
+use Rattle.lexer.specs.declared.token.Kind.TheVariants.{Word, Variable, Open, Close, Comma, Dot, Unequal, Stray}
 use Rattle.lexer.specs.declared.token.First.{First}
 use Rattle.lexer.specs.declared.token.First.TheVariants.{Nothing, Gap, Piece}
-use Rattle.lexer.specs.declared.token.Stretch.TheVariants.{Wordly, Line}
+use Rattle.lexer.specs.declared.token.Stretch.TheVariants.{Wordly}
 use Rattle.lexer.proofs.Lexing.{Moves, first_moves, tokens_gap, tokens_piece, tokens_none}
 use Rattle.lexer.proofs.Cuts.{reach, first_cut}
 use Rattle.grammar.specs.Kinds.{code, same_kind}

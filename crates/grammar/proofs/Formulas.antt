@@ -1,9 +1,9 @@
 -- The machine goes from its start to the end of a formula exactly where the grammar has one.
-use Rattle.std.proofs.Common.{◌≡◌, ℕ, Bool, true, false, cond, ◌&&◌, ◌||◌, ◌⊎◌, List, [], ◌∷◌, Some, None, codes, Option, sym, refl, ap, ◌∙◌, subst, inl, inr}
-use Rattle.std.proofs.lemmas.Bool.{cases_Bool, cond-true, cond-false, or_cases, and_parts, and_from}
+use Rattle.std.proofs.Common.{◌≡◌, Bool, true, false, ◌&&◌, ◌||◌, ◌⊎◌, List, [], ◌∷◌, Some, codes, sym, refl, ap, ◌∙◌, subst, inl, inr}
+use Rattle.std.proofs.lemmas.Bool.{cases_Bool, cond-true, cond-false, or_cases, and_parts}
 use Rattle.lexer.specs.Tokens.{Lexeme}
 use Rattle.lexer.specs.declared.token.Kind.{Kind}
-use Rattle.lexer.specs.declared.token.Kind.TheVariants.{Word, Variable, Open, Close, Comma, Dot, Equal, Unequal}
+use Rattle.lexer.specs.declared.token.Kind.TheVariants.{Word, Open, Close, Comma, Dot, Equal, Unequal}
 use Rattle.grammar.specs.Kinds.{same_kind, same_bytes}
 use Rattle.grammar.specs.Machine.{expect, spot, next, term_start, is_done}
 use Rattle.grammar.specs.Syntax.{Literal, Sides, sides, Body, bare, wrapped, Parsed, Formula, formula, Is}

@@ -1,14 +1,14 @@
 -- The next formula of a problem text, from a walk that starts at its first token.
-use Rattle.std.proofs.Common.{◌≡◌, ℕ, ◌+◌, ◌-◌, ◌≤◌, List, [], ◌∷◌, ◌++◌, length, take, drop, Some, None, Ok, Err, Option, Result, sym, refl, ap, ◌∙◌, subst, arith}
+use Rattle.std.proofs.Common.{◌≡◌, ℕ, ◌+◌, ◌-◌, ◌≤◌, List, [], ◌∷◌, ◌++◌, length, take, drop, Some, Ok, Err, Option, Result, sym, refl, ap, ◌∙◌, subst, arith}
 use Rattle.refusal.specs.declared.Refusal.{Refusal}
 use Rattle.refusal.specs.declared.Refusal.TheVariants.{Grammar}
 use Rattle.lexer.specs.Tokens.{Lexeme, tokens, tokens_from}
-use Rattle.grammar.specs.Machine.{walk, is_done}
+use Rattle.grammar.specs.Machine.{walk}
 use Rattle.grammar.specs.Fits.{Complete, Misfit}
-use Rattle.grammar.specs.Outcomes.{Handed, none, misfit, part, end_behind, NoFormula}
+use Rattle.grammar.specs.Outcomes.{Handed, misfit, part, end_behind, NoFormula}
 use Rattle.grammar.specs.declared.machine.State.TheVariants as state
 use Rattle.grammar.specs.declared.part.Part.{Part}
-use Rattle.grammar.proofs.Steps.{run, some_same}
+use Rattle.grammar.proofs.Steps.{run}
 use Rattle.grammar.proofs.Alone.{alone}
 use Rattle.grammar.proofs.Prefixes.{run_complete}
 use Rattle.grammar.proofs.Walks.{walk_misfit, walk_front, none_whole}

@@ -1,14 +1,11 @@
 -- Every state has tokens that finish a formula, so tokens begin a formula exactly where the machine is not stuck.
-use Rattle.std.proofs.Common.{◌≡◌, ℕ, zero, suc, ◌+◌, ◌-◌, Bool, true, false, cond, ltb, ◌⊎◌, List, [], ◌∷◌, ◌++◌, length, Some, None, Ok, Err, codes, Option, Result, sym, refl, ap, ◌∙◌, subst, inl, inr, append_assoc, append-nil, arith}
-use mathlib.Core.Bool.{false≢true}
+use Rattle.std.proofs.Common.{◌≡◌, ℕ, zero, suc, ◌-◌, Bool, true, false, cond, ◌⊎◌, List, [], ◌∷◌, ◌++◌, Some, None, codes, Option, sym, refl, ap, ◌∙◌, inl, inr, arith}
 use Rattle.std.proofs.lemmas.Bool.{cases_Bool, cond-true, cond-false, lt-ltb}
 use Rattle.lexer.specs.Tokens.{Lexeme}
-use Rattle.lexer.specs.Next.{end_of}
 use Rattle.lexer.specs.declared.token.Kind.{Kind}
 use Rattle.lexer.specs.declared.token.Kind.TheVariants.{Word, Variable, Open, Close, Comma, Dot, Equal}
-use Rattle.grammar.specs.Machine.{next, is_done, spot, walk, behind}
-use Rattle.grammar.specs.Fits.{Complete, Begins, Misfit, at_token, at_end}
-use Rattle.grammar.specs.Syntax.{Formula}
+use Rattle.grammar.specs.Machine.{next, is_done, spot, behind}
+use Rattle.grammar.specs.Fits.{Complete, Begins}
 use Rattle.grammar.specs.declared.machine.State.{State}
 use Rattle.grammar.specs.declared.machine.State.TheVariants as state
 use Rattle.grammar.proofs.Steps.{none_some, some_same, bind, goes, run, run_append, done_only}

@@ -1,18 +1,16 @@
 -- The machine reads a term exactly where the grammar has one.
-use Rattle.std.proofs.Common.{◌≡◌, ℕ, zero, suc, ◌+◌, ◌-◌, ◌*◌, ◌<◌, ◌≤◌, Bool, true, false, cond, ltb, ◌⊎◌, List, [], ◌∷◌, length, Some, None, Option, sym, refl, ap, ◌∙◌, subst, inl, inr, arith}
-use mathlib.Core.Bool.{false≢true}
+use Rattle.std.proofs.Common.{◌≡◌, ℕ, zero, suc, ◌+◌, ◌-◌, ◌*◌, ◌<◌, ◌≤◌, true, false, ltb, ◌⊎◌, List, [], ◌∷◌, length, Some, None, sym, refl, ap, ◌∙◌, subst, inl, inr, arith}
 use Rattle.std.proofs.lemmas.Bool.{lt-ltb, cases_Bool, cond-true, cond-false, cond_both}
 use Rattle.lexer.specs.Tokens.{Lexeme}
 use Rattle.lexer.specs.declared.token.Kind.{Kind}
-use Rattle.lexer.specs.declared.token.Kind.TheVariants.{Word, Variable, Open, Close, Comma, Dot, Equal, Unequal, Stray}
+use Rattle.lexer.specs.declared.token.Kind.TheVariants.{Word, Variable, Open, Close, Comma}
 use Rattle.grammar.specs.Kinds.{same_kind}
-use Rattle.grammar.specs.Machine.{expect, spot, term_start, inside, outside, behind, next, is_done}
+use Rattle.grammar.specs.Machine.{spot, inside, behind}
 use Rattle.grammar.specs.Syntax.{Tree, Trees, leaf, node, nil, ◌▹◌, Term, Args, variable, constant, applied, last, more}
 use Rattle.grammar.specs.declared.machine.Spot.{Spot}
-use Rattle.grammar.specs.declared.machine.State.{State}
 use Rattle.grammar.specs.declared.machine.State.TheVariants as state
 use Rattle.grammar.proofs.Same.{same_kind_true}
-use Rattle.grammar.proofs.Steps.{none_some, some_same, bind, goes, kind_met, expected}
+use Rattle.grammar.proofs.Steps.{none_some, bind, goes, kind_met}
 
 abbrev pub deeper : Spot → Spot
 deeper s = spot (s.depth + 1) s.right s.wrapped

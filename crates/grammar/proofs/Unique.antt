@@ -1,11 +1,10 @@
 -- The grammar is unambiguous: tokens are one formula in one way.
-use Rattle.std.proofs.Common.{◌≡◌, ℕ, Bool, true, false, ◌⊎◌, List, [], ◌∷◌, ◌++◌, sym, refl, ap, ◌∙◌, subst, ap₂, inl, inr, append_assoc, arith}
-use mathlib.Core.Bool.{false≢true}
+use Rattle.std.proofs.Common.{◌≡◌, ℕ, ◌⊎◌, List, [], ◌∷◌, sym, refl, ap, ◌∙◌, subst, ap₂, inl, inr, append_assoc, arith}
 use Rattle.lexer.specs.Tokens.{Lexeme}
 use Rattle.lexer.specs.declared.token.Kind.{Kind}
-use Rattle.lexer.specs.declared.token.Kind.TheVariants.{Word, Variable, Open, Close, Comma, Dot, Equal, Unequal}
-use Rattle.grammar.specs.Fits.{Complete, Begins, Misfit, at_token, at_end}
-use Rattle.grammar.specs.Syntax.{Tree, Trees, leaf, node, nil, ◌▹◌, Term, Args, variable, constant, applied, last, more, Literal, Sides, sides, Body, bare, wrapped, Parsed, Formula, formula, Is}
+use Rattle.lexer.specs.declared.token.Kind.TheVariants.{Word, Variable, Open, Close, Comma, Equal, Unequal}
+use Rattle.grammar.specs.Fits.{Complete, Misfit, at_token, at_end}
+use Rattle.grammar.specs.Syntax.{Tree, Trees, node, nil, ◌▹◌, Term, Args, variable, constant, applied, last, more, Literal, Sides, sides, Body, bare, wrapped, Parsed, Formula, formula, Is}
 
 -- no parenthesis opens there
 abbrev pub Still : List Lexeme → Type 0

@@ -1,13 +1,11 @@
 -- What stands first in a text stands first in a front of it that reaches further.
-use Rattle.std.proofs.Common.{◌≡◌, ℕ, zero, suc, ◌+◌, ◌-◌, ◌<◌, ◌≤◌, Bool, true, false, cond, ◌&&◌, eqb, ◌⊎◌, List, [], ◌∷◌, length, take, drop, Some, None, Option, sym, refl, ap, ◌∙◌, subst, inl, inr, arith}
-use mathlib.Core.Bool.{false≢true}
+use Rattle.std.proofs.Common.{◌≡◌, ℕ, zero, suc, ◌+◌, ◌-◌, ◌<◌, ◌≤◌, Bool, true, false, cond, ◌&&◌, eqb, ◌⊎◌, List, [], ◌∷◌, take, drop, Some, None, Option, sym, refl, ap, ◌∙◌, subst, inl, inr, arith}
 use Rattle.std.specs.Option.{option_map}
 use Rattle.std.proofs.lemmas.List.{drop-take}
 use Rattle.std.proofs.lemmas.Bool.{cases_Bool, cond-true, cond-false, and_right}
 use Rattle.signature.specs.Words.{lower, upper}
 use Rattle.lexer.specs.Tokens.{goes_over, front_length, block_length_lem, starts, blank, block, mark, first}
-use Rattle.lexer.specs.declared.token.Kind.{Kind}
-use Rattle.lexer.specs.declared.token.Kind.TheVariants.{Word, Variable, Unequal, Stray}
+use Rattle.lexer.specs.declared.token.Kind.TheVariants.{Word, Variable, Unequal}
 use Rattle.lexer.specs.declared.token.First.{First}
 use Rattle.lexer.specs.declared.token.First.TheVariants.{Nothing, Gap, Piece}
 use Rattle.lexer.specs.declared.token.Stretch.{Stretch}

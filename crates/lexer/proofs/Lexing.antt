@@ -1,14 +1,13 @@
 -- The bound on the recursion is only a bound: one token after another, as the text has them.
-use Rattle.std.proofs.Common.{◌≡◌, ℕ, zero, suc, ◌+◌, ◌-◌, ◌<◌, ◌≤◌, Bool, true, false, cond, ◌&&◌, eqb, ◌⊎◌, List, [], ◌∷◌, length, get_or, take, drop, IfSome, Some, None, Option, sym, refl, ap, ◌∙◌, ap₂, inl, inr, arith, length-drop}
+use Rattle.std.proofs.Common.{◌≡◌, ℕ, zero, suc, ◌+◌, ◌-◌, ◌<◌, ◌≤◌, true, ◌&&◌, eqb, List, [], ◌∷◌, length, take, drop, IfSome, Some, None, Option, sym, refl, ap, ◌∙◌, ap₂, arith, length-drop}
 use mathlib.Core.Bool.{false≢true}
 use Rattle.std.specs.Option.{option_map}
 use Rattle.std.proofs.lemmas.List.{take_rest, length-take-le, drop-drop}
 use Rattle.std.proofs.lemmas.Bool.{cond_both, and_parts}
 use Rattle.signature.specs.Words.{lower, upper}
-use Rattle.lexer.specs.Tokens.{goes_over, front_length, block_length_lem, starts, blank, block, mark, first, Lexeme, lexed, lex, tokens_from}
+use Rattle.lexer.specs.Tokens.{goes_over, front_length, block_length_lem, starts, blank, block, first, Lexeme, lexed, lex, tokens_from}
 use Rattle.lexer.specs.Next.{end_of}
 use Rattle.lexer.specs.declared.token.Kind.{Kind}
-use Rattle.lexer.specs.declared.token.Kind.TheVariants.{Word, Variable, Unequal}
 use Rattle.lexer.specs.declared.token.First.{First}
 use Rattle.lexer.specs.declared.token.First.TheVariants.{Nothing, Gap, Piece}
 use Rattle.lexer.specs.declared.token.Stretch.{Stretch}

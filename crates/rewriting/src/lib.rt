@@ -1,3 +1,2 @@
 // The mathematics of reduction orders, in specs/ and proofs/: it has no code.
 #![tactic(auto)]
-

@@ -1,11 +1,8 @@
 -- What is written of two terms within the reader's limits reads back as them.
-use Rattle.std.proofs.Common.{◌≡◌, ℕ, zero, suc, ◌+◌, ◌<◌, ◌≤◌, Bool, true, false, ◌⊎◌, List, [], ◌∷◌, ◌++◌, map, length, get_or, take, Ok, Err, codes, Result, sym, refl, ap, ◌∙◌, subst, ap₂, inl, inr, arith}
-use lib.ListN.{length-map}
+use Rattle.std.proofs.Common.{◌≡◌, ℕ, zero, suc, ◌+◌, ◌<◌, true, ◌⊎◌, List, [], ◌∷◌, ◌++◌, length, get_or, Ok, Err, codes, Result, sym, refl, ap, ◌∙◌, subst, inl, inr, arith}
 use Rattle.std.proofs.lemmas.Bool.{both_ways}
 use Rattle.refusal.specs.declared.Refusal.{Refusal}
 use Rattle.terms.specs.Term as terms
-use Rattle.terms.specs.Sig.{Over}
-use Rattle.terms.specs.Patterns.{term_of}
 use Rattle.terms.specs.declared.pattern.Node.{Node}
 use Rattle.signature.specs.Words.{is_word}
 use Rattle.signature.specs.Lines.{names}
@@ -15,10 +12,10 @@ use Rattle.signature.specs.declared.symbol.Symbol.{Symbol}
 use Rattle.signature.specs.declared.signature.Signature.{Signature}
 use Rattle.signature.proofs.Symbols.{symbols_count}
 use Rattle.lexer.specs.Tokens.{Lexeme, tokens, tokens_from}
-use Rattle.lexer.specs.declared.token.Kind.TheVariants.{Word, Variable, Open, Close, Comma, Dot, Equal}
+use Rattle.lexer.specs.declared.token.Kind.TheVariants.{Word, Open, Close, Comma, Dot, Equal}
 use Rattle.lexer.proofs.Lexing.{tokens_none}
 use Rattle.grammar.specs.Syntax.{Parsed, Formula, formula, bare, sides}
-use Rattle.grammar.specs.Outcomes.{Checked, too_long, misfit}
+use Rattle.grammar.specs.Outcomes.{too_long, misfit}
 use Rattle.grammar.proofs.Unique.{formula_once, complete_fits}
 use Rattle.formula.specs.Symbols.{index_of}
 use Rattle.formula.specs.Uses.{uses, NoneMisused, FirstMisused}
@@ -29,7 +26,7 @@ use Rattle.formula.proofs.Resolving.{ok_same, err_ok}
 use Rattle.round_trip.specs.Variables.{met, Low, Lows, at}
 use Rattle.round_trip.specs.Texts.{equation_text, variable_name, token, spelt, tree}
 use Rattle.round_trip.specs.RoundTrip.{Readable, ReadBack, RoundTrip}
-use Rattle.round_trip.proofs.Spelling.{Words, Stops, lex_term, piece}
+use Rattle.round_trip.proofs.Spelling.{Words, lex_term, piece}
 use Rattle.round_trip.proofs.Parsing.{parse_term}
 use Rattle.round_trip.proofs.Counting.{Each, named, at_name, none_misused, resolves, lays, each_met, occurs_met, stays, longer_met, longer_length, at_apart, listed_append}
 

@@ -1,10 +1,10 @@
 -- Written variables are numbered as they are met, and what is within the limits is laid out.
-use Rattle.std.proofs.Common.{◌≡◌, ℕ, zero, suc, ◌+◌, ◌^◌, ◌<◌, ◌≤◌, Bool, true, false, cond, not, eqb, ltb, ◌⊎◌, List, [], ◌∷◌, ◌++◌, map, length, get_or, Some, None, Ok, Err, decimal, Decides, Result, sym, refl, ap, ◌∙◌, ap₂, inl, inr, append_assoc, append-nil, arith, length-append}
+use Rattle.std.proofs.Common.{◌≡◌, ℕ, ◌+◌, ◌<◌, ◌≤◌, Bool, true, false, cond, not, eqb, ltb, ◌⊎◌, List, [], ◌∷◌, ◌++◌, map, length, get_or, Some, Ok, sym, refl, ap, ◌∙◌, ap₂, inl, inr, append_assoc, append-nil, arith, length-append}
 use lib.ListN.{length-map}
 use Rattle.std.specs.Str.Parse.{digits_value}
 use Rattle.std.proofs.lemmas.Fmt.{decimal_is_IsNumeral}
 use Rattle.std.proofs.lemmas.List.{map-append}
-use Rattle.std.proofs.lemmas.Bool.{cond-true, cond-false, cond_both, lt-ltb, le-ltb, eq-eqb, eqb-true, ne_eqb, cases_lt, cases_Bool}
+use Rattle.std.proofs.lemmas.Bool.{cond-true, cond-false, cond_both, lt-ltb, le-ltb, eq-eqb, eqb-true, cases_lt, cases_Bool}
 use Rattle.std.proofs.lemmas.Bool.Decides.{same_from_decides, Decides-eqb, Decides-like}
 use Rattle.terms.specs.Term as terms
 use Rattle.terms.specs.Sig.{Over, AllOver}
@@ -16,11 +16,11 @@ use Rattle.lexer.specs.Tokens.{Lexeme}
 use Rattle.lexer.specs.declared.token.Kind.TheVariants.{Word}
 use Rattle.grammar.specs.Kinds.{same_bytes}
 use Rattle.grammar.proofs.Same.{bytes_decide}
-use Rattle.formula.specs.Symbols.{index_of, number_in, symbol_of}
+use Rattle.formula.specs.Symbols.{index_of, symbol_of}
 use Rattle.formula.specs.Uses.{Use, uses, usess, count, misused, Listed, here, later, NoneMisused}
 use Rattle.formula.specs.Numbering.{cells, cellss, laid, with_name, resolved, resolveds}
 use Rattle.formula.proofs.Named.{symbol_found, number_is}
-use Rattle.formula.proofs.Laying.{Pair, on, laid_append}
+use Rattle.formula.proofs.Laying.{on, laid_append}
 use Rattle.signature.specs.Written.{written}
 use Rattle.round_trip.specs.Variables.{at, with_variable, met, mets, Low, Lows}
 use Rattle.round_trip.specs.Texts.{variable_name, token, tree, trees}

@@ -1,11 +1,11 @@
 -- The written tokens make the written tree.
-use Rattle.std.proofs.Common.{◌≡◌, ℕ, suc, ◌+◌, ◌<◌, ◌≤◌, Bool, true, false, not, List, [], ◌∷◌, ◌++◌, length, get_or, sym, refl, ap, ◌∙◌, subst, append_assoc, append-nil, arith}
+use Rattle.std.proofs.Common.{ℕ, ◌+◌, List, [], ◌∷◌, ◌++◌, length, get_or, sym, refl, subst, append_assoc}
 use Rattle.terms.specs.Term as terms
 use Rattle.signature.specs.Written.{written}
 use Rattle.lexer.specs.Tokens.{Lexeme}
-use Rattle.lexer.specs.declared.token.Kind.TheVariants.{Word, Variable, Open, Close, Comma}
-use Rattle.grammar.specs.Syntax.{Tree, Trees, leaf, node, nil, ◌▹◌, Term, Args, variable, constant, applied, last, more}
-use Rattle.round_trip.specs.Texts.{token, variable_name, spelt, spelt_args, spelt_more, tree, trees}
+use Rattle.lexer.specs.declared.token.Kind.TheVariants.{Word, Close}
+use Rattle.grammar.specs.Syntax.{Tree, node, ◌▹◌, Term, Args, variable, constant, applied, last, more}
+use Rattle.round_trip.specs.Texts.{token, spelt, spelt_args, spelt_more, tree, trees}
 
 module _ (ns : List (List ℕ)) where
   mutual

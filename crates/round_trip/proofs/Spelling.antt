@@ -1,20 +1,20 @@
 -- The tokens of what is written.
-use Rattle.std.proofs.Common.{◌≡◌, ℕ, suc, ◌+◌, ◌/◌, ◌%◌, ◌^◌, ◌<◌, ◌≤◌, Bool, true, false, cond, not, ◌&&◌, ◌||◌, eqb, leb, ◌⊎◌, List, [], ◌∷◌, ◌++◌, length, get_or, take, drop, codes, decimal, sym, refl, ap, ◌∙◌, ap₂, inl, inr, append_assoc, append-nil, arith, length-append}
+use Rattle.std.proofs.Common.{◌≡◌, ℕ, ◌+◌, ◌/◌, ◌%◌, ◌<◌, ◌≤◌, true, false, leb, ◌⊎◌, List, [], ◌∷◌, ◌++◌, length, get_or, decimal, sym, refl, ap, ◌∙◌, ap₂, inl, inr, append_assoc, arith, length-append}
 use Rattle.std.proofs.lemmas.Fmt.{decimal_digit, decimal_step}
 use Rattle.std.proofs.lemmas.List.{take_at, drop_at, take_rest}
 use Rattle.std.proofs.lemmas.Bool.{cond-true, cond-false, and_parts, and_from, leb-true, cases_lt}
 use Rattle.std.proofs.lemmas.Bool.Decides.{nat_tests}
 use Rattle.terms.specs.Term as terms
 use Rattle.terms.specs.Sig.{Sig, Over, AllOver}
-use Rattle.signature.specs.Words.{lower, upper, wordly, all_wordly_lem, is_word}
+use Rattle.signature.specs.Words.{lower, wordly, all_wordly_lem, is_word}
 use Rattle.signature.specs.Written.{written, written_args, written_more}
 use Rattle.lexer.specs.Tokens.{Lexeme, first, front_length, tokens_from}
 use Rattle.lexer.specs.declared.token.Kind.{Kind}
-use Rattle.lexer.specs.declared.token.Kind.TheVariants.{Word, Variable, Open, Close, Comma, Dot, Equal}
+use Rattle.lexer.specs.declared.token.Kind.TheVariants.{Word, Variable, Open, Close, Comma}
 use Rattle.lexer.specs.declared.token.First.TheVariants.{Piece}
 use Rattle.lexer.specs.declared.token.Stretch.TheVariants.{Wordly}
 use Rattle.lexer.proofs.Heads.{first_word, first_variable}
-use Rattle.lexer.proofs.Lexing.{tokens_piece, tokens_none}
+use Rattle.lexer.proofs.Lexing.{tokens_piece}
 use Rattle.round_trip.specs.Variables.{Low, Lows}
 use Rattle.round_trip.specs.Texts.{variable_name, token, spelt, spelt_args, spelt_more}
 

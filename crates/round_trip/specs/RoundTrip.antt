@@ -1,5 +1,5 @@
 -- What is written reads back as the same term, but for variable numbers.
-use Rattle.std.specs.Prelude.{◌≡◌, ℕ, ◌≤◌, ◌⊎◌, List, [], length, Ok, Result}
+use Rattle.std.specs.Prelude.{◌≡◌, ℕ, ◌≤◌, ◌⊎◌, [], length, Ok, Result}
 use Rattle.refusal.specs.declared.Refusal.{Refusal}
 use Rattle.terms.specs.Term.{Term, var, sub, cells, Occ}
 use Rattle.terms.specs.Sig.{Over}

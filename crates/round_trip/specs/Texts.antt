@@ -1,11 +1,11 @@
 -- Two written terms as the text of one formula, its tokens and its trees.
 use Rattle.std.specs.Prelude.{ℕ, ◌+◌, List, [], ◌∷◌, ◌++◌, length, codes, decimal, slice_index_or}
 use Rattle.terms.specs.Term as terms
-use Rattle.signature.specs.Written.{written, written_args, written_more}
+use Rattle.signature.specs.Written.{written}
 use Rattle.lexer.specs.Tokens.{Lexeme}
 use Rattle.lexer.specs.declared.token.Kind.{Kind}
-use Rattle.lexer.specs.declared.token.Kind.TheVariants.{Word, Variable, Open, Close, Comma, Dot, Equal}
-use Rattle.grammar.specs.Syntax.{Tree, Trees, leaf, node, nil, ◌▹◌, Parsed}
+use Rattle.lexer.specs.declared.token.Kind.TheVariants.{Word, Variable, Open, Close, Comma}
+use Rattle.grammar.specs.Syntax.{Tree, Trees, leaf, node, nil, ◌▹◌}
 
 -- cnf(q,axiom,l=r).
 abbrev pub equation_text : List (List ℕ) → terms.Term → terms.Term → List ℕ

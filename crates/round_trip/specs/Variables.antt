@@ -1,5 +1,5 @@
 -- The variables of a term, each once, in the order of their first occurrence.
-use Rattle.std.specs.Prelude.{◌≡◌, ℕ, ◌+◌, ◌<◌, Bool, cond, List, [], ◌∷◌, ◌++◌, length, ◌==◌, nat_lt}
+use Rattle.std.specs.Prelude.{ℕ, ◌+◌, ◌<◌, cond, List, [], ◌∷◌, ◌++◌, length, ◌==◌, nat_lt}
 use Rattle.terms.specs.Term.{Term, Terms, var, app, nil, ◌▹◌}
 
 -- the place of x among some numbers, or how many there are

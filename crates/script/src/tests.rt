@@ -24,7 +24,7 @@ fn texts(rt: HostRuntime) -> Result<(), Fail> {
     let Ok(bytes) = quoted(rt.alloc(), b"\"a\\t\\\"\\\\\\x4a\\x4A\"") else {
         return Err(Fail::new("not read"));
     };
-    assert!(rt; bytes.as_slice() == b"a\t\"\\JJ");
+    assert!(rt; bytes.as_slice() == b"a\t\"\\JJ".as_slice());
     assert!(rt; quoted(rt.alloc(), b"\"a\"\"").is_err());
     assert!(rt; quoted(rt.alloc(), b"\"\\x4\"").is_err());
     assert!(rt; quoted(rt.alloc(), b"\"").is_err());

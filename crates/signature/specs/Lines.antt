@@ -1,5 +1,5 @@
 -- What a symbol's line says.
-use Rattle.std.specs.Prelude.{◌≡◌, ℕ, ◌<◌, List, [], map, length, take, ◌≢◌, slice_index_or}
+use Rattle.std.specs.Prelude.{ℕ, ◌<◌, List, [], map, length, take, ◌≢◌, slice_index_or}
 use Rattle.signature.specs.declared.name.Name.{Name}
 use Rattle.signature.specs.declared.symbol.Symbol.{Symbol}
 

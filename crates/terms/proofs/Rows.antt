@@ -1,9 +1,9 @@
 -- Walking a row of nodes from its end: how many terms it is the preorder of.
-use Rattle.std.proofs.Common.{◌≡◌, ℕ, zero, suc, ◌+◌, ◌-◌, ◌<◌, ◌≤◌, Bool, true, false, ◌&&◌, ◌≢◌, ◌⊎◌, List, [], ◌∷◌, ◌++◌, length, get_or, take, drop, is_some, Some, None, Option, sym, refl, ap, ◌∙◌, inl, inr, append_assoc, append-nil, arith}
+use Rattle.std.proofs.Common.{◌≡◌, ℕ, zero, suc, ◌+◌, ◌-◌, ◌<◌, ◌≤◌, Bool, true, false, ◌&&◌, List, [], ◌∷◌, ◌++◌, length, get_or, drop, is_some, Some, None, Option, sym, refl, ap, ◌∙◌, inl, inr, append_assoc, append-nil, arith}
 use mathlib.Core.Bool.{false≢true}
 use Rattle.std.proofs.lemmas.Bool.{and_parts}
 use Rattle.terms.specs.Term.{Term, Terms, var, app, nil, ◌▹◌, width}
-use Rattle.terms.specs.Preorder.{split, headed, in_front, row, alone, decode, small, all_small, Whole, Fits, Reads, Walked, preorder, preorders}
+use Rattle.terms.specs.Preorder.{split, in_front, row, alone, decode, small, all_small, Whole, Fits, Reads, Walked, preorder, preorders}
 use Rattle.terms.specs.declared.pattern.Node.{Node}
 use Rattle.terms.specs.declared.pattern.Node.TheVariants.{Var, App}
 

@@ -1,4 +1,4 @@
-use Rattle.std.proofs.Common.{◌≡◌, ◌<◌, length, take, ap, inl, inr, arith}
+use Rattle.std.proofs.Common.{◌≡◌, ◌<◌, length, take, ap, inr, arith}
 use Rattle.std.proofs.lemmas.List.{take_all}
 use Rattle.places.specs.Lines.{feeds}
 use Rattle.places.proofs.Feeds.{at_feed, at_other}

@@ -1,4 +1,4 @@
-use Rattle.std.proofs.Common.{◌≡◌, List, [], length, Ok, sym, ap, ◌∙◌}
+use Rattle.std.proofs.Common.{List, length, Ok, ap, ◌∙◌}
 use Rattle.std.proofs.lemmas.Result.{err_from_is_err_and}
 use Rattle.lexer.specs.Next.{lexeme_of}
 use Rattle.lexer.specs.Tokens.{Lexeme}

@@ -1,4 +1,4 @@
-use Rattle.std.proofs.Common.{◌≡◌, ℕ, List, reverse, take, sym, refl, ap, ◌∙◌, ap₂, arith}
+use Rattle.std.proofs.Common.{ℕ, List, reverse, take, sym, ap, ◌∙◌, ap₂, arith}
 use Rattle.formula.specs.Scans.{at_close, noted_at_close}
 use Rattle.formula.specs.declared.frame.Frame.{Frame}
 use Rattle.lent_list.proofs.Stacks.{peel}

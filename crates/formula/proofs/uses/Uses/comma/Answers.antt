@@ -1,6 +1,5 @@
-use Rattle.std.proofs.Common.{◌≡◌, ◌-◌, ◌∷◌, reverse, get_or, take, sym, refl, ap, ◌∙◌, arith}
+use Rattle.std.proofs.Common.{◌-◌, ◌∷◌, reverse, get_or, take, sym, refl, ap, ◌∙◌, arith}
 use Rattle.formula.specs.Scans.{at_comma}
-use Rattle.formula.specs.declared.frame.Frame.{Frame}
 use Rattle.lent_list.proofs.Stacks.{peel, replaced}
 use Rattle.formula.proofs.uses.Uses.comma.Goals as goal
 

@@ -1,4 +1,4 @@
-use Rattle.std.proofs.Common.{◌≡◌, ◌+◌, ◌≤◌, length, sym, ap, ◌∙◌, arith}
+use Rattle.std.proofs.Common.{◌≤◌, length, sym, ap, ◌∙◌, arith}
 use Rattle.grammar.specs.Kinds.{same_bytes}
 use Rattle.formula.specs.declared.variables.Span.{Span}
 use Rattle.formula.proofs.Tables.{met_here, met_later, met_never}

@@ -1,7 +1,7 @@
-use Rattle.std.proofs.Common.{◌≡◌, ◌+◌, ◌≤◌, Some, Option, sym, ◌∙◌, subst, arith}
+use Rattle.std.proofs.Common.{◌≡◌, Some, Option, sym, ◌∙◌, subst, arith}
 use Rattle.lexer.specs.Next.{Next, lexeme_of}
 use Rattle.lexer.specs.declared.token.Token.{Token}
-use Rattle.grammar.specs.Machine.{next, depth_of}
+use Rattle.grammar.specs.Machine.{next}
 use Rattle.grammar.proofs.Walks.{next_depth, walk_more, walk_done}
 use Rattle.grammar.proofs.machine.methods.formula_end.Goals as goal
 
