@@ -1,9 +1,9 @@
 -- Marking a cell's arguments, one slot after another: xs are the marks before, ys those after k slots.
-use Rattle.std.proofs.Common.{◌≡◌, ℕ, ◌+◌, ◌<◌, ◌≤◌, Bool, true, false, ◌≢◌, ◌⊎◌, List, length, get_or, take, set, sym, refl, ◌∙◌, subst, inl, inr, ⊎_elim, arith, get_or-set_other, get_or-set_same}
+use Rattle.std.proofs.Common.{◌≡◌, ℕ, ◌+◌, ◌<◌, Bool, true, false, List, length, get_or, take, set, sym, ◌∙◌, subst, inl, inr, arith, get_or-set_other, get_or-set_same}
 use native.Mathlib.Decide.{ℕ_discrete}
 use Rattle.std.proofs.lemmas.List.{get_or-take, length-take}
 use Rattle.lists.specs.Members.{In}
-use Rattle.lists.proofs.Members.{Place, place, in_at}
+use Rattle.lists.proofs.Members.{place, in_at}
 use Rattle.bank.specs.declared.cell.Cell.{Cell}
 use Rattle.bank.specs.declared.cell.Cell.TheVariants.{App}
 use Rattle.reach.specs.Marks.{Slot, Adding, Added}

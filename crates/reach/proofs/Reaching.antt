@@ -1,14 +1,12 @@
 -- Marks pass down from the root: those of the cells from k on have gone to their arguments.
-use Rattle.std.proofs.Common.{◌≡◌, ℕ, ◌+◌, ◌-◌, ◌<◌, ◌≤◌, Bool, true, false, ◌⊎◌, List, length, get_or, set, Decides, sym, refl, ◌∙◌, subst, inl, inr, arith, get_or-set_other, get_or-set_same}
+use Rattle.std.proofs.Common.{◌≡◌, ℕ, ◌+◌, ◌-◌, ◌<◌, ◌≤◌, Bool, true, false, ◌⊎◌, List, length, get_or, set, sym, refl, ◌∙◌, subst, inl, inr, arith, get_or-set_other, get_or-set_same}
 use mathlib.Core.Bool.{false≢true}
 use native.Mathlib.Decide.{ℕ_discrete}
 use Rattle.lists.specs.Members.{In}
-use Rattle.terms.specs.Term.{Term}
 use Rattle.terms.specs.Sig.{Sig}
 use Rattle.bank.specs.declared.cell.Cell.{Cell}
 use Rattle.bank.specs.declared.cell.Cell.TheVariants.{Var, App}
 use Rattle.bank.specs.Rules.{Rules}
-use Rattle.bank.specs.Means.{Means}
 use Rattle.bank.proofs.Readings.{laws, means_within}
 use Rattle.enter.specs.Grown.{Part}
 use Rattle.reduction.specs.Reaches.{Reaches, root, argument}

@@ -1,7 +1,7 @@
 -- One cell's turn.
-use Rattle.std.proofs.Common.{◌≡◌, ℕ, zero, suc, ◌+◌, ◌<◌, ◌≤◌, Bool, true, false, ◌⊎◌, List, [], ◌∷◌, ◌++◌, length, get_or, take, Some, None, Decides, Option, sym, refl, ap, ◌∙◌, subst, ap₂, inl, inr, append_assoc, append-nil, arith, length-append}
+use Rattle.std.proofs.Common.{◌≡◌, ℕ, zero, suc, ◌<◌, ◌≤◌, Bool, true, false, ◌⊎◌, List, [], ◌∷◌, ◌++◌, length, get_or, take, Some, None, Decides, sym, refl, ap, ◌∙◌, subst, ap₂, inl, inr, append_assoc, arith, length-append}
 use mathlib.Core.Bool.{false≢true}
-use Rattle.std.proofs.lemmas.List.{get_or-take, get_or_past, length-take, length-take-le, get_or_append_left}
+use Rattle.std.proofs.lemmas.List.{get_or-take, length-take-le, get_or_append_left}
 use Rattle.std.proofs.lemmas.Bool.{cases_Bool}
 use Rattle.lists.specs.Members.{In}
 use Rattle.terms.specs.Term.{Term, Terms, var, app, nil, ◌▹◌, width}
@@ -9,17 +9,17 @@ use Rattle.terms.specs.Sig.{Sig}
 use Rattle.bank.specs.declared.cell.Cell.{Cell}
 use Rattle.bank.specs.declared.cell.Cell.TheVariants.{Var, App}
 use Rattle.bank.specs.Rules.{Rules, Slots, Node}
-use Rattle.bank.specs.Means.{Means, MeansAll, is_var, is_app, none, and}
+use Rattle.bank.specs.Means.{Means, MeansAll, is_app, none, and}
 use Rattle.bank.proofs.Readings.{node, same, means_within, grown_all, reads, open_var, open_app, Opened, tall}
-use Rattle.enter.specs.Enter.{note, chain, fill, blank, enter, enters}
+use Rattle.enter.specs.Enter.{note, fill, blank, enter, enters}
 use Rattle.enter.proofs.Machining.{both, chain_some}
-use Rattle.enter.proofs.Growing.{note_law, Noted}
+use Rattle.enter.proofs.Growing.{note_law}
 use Rattle.reduction.specs.Reaches.{Reaches, argument}
 use Rattle.reduction.specs.Replaced.{replace, replaces}
 use Rattle.reduction.specs.Steps.{Crowded}
 use Rattle.reduction.proofs.Subterms.{argument_lower}
 use Rattle.reduction.proofs.Presence.{presents, slots_filled}
-use Rattle.reduction.proofs.Replacing.{replaced_itself, replaced_app, replaced_var, replaced_width}
+use Rattle.reduction.proofs.Replacing.{replaced_itself, replaced_app, replaced_var}
 use Rattle.rebuild.specs.Forms.{Slotted, Mapped}
 use Rattle.rebuild.specs.Rebuilds.{Ready}
 use Rattle.rebuild.proofs.Rebuilding.{Forms, still, new_there, crowded, passes, turns, stands}

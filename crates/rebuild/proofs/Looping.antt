@@ -1,5 +1,5 @@
 -- The loop over the cells: n₀ of the cells₀ were counted when it began.
-use Rattle.std.proofs.Common.{◌≡◌, ℕ, suc, ◌+◌, ◌<◌, ◌≤◌, Bool, true, false, ◌⊎◌, List, length, get_or, take, set, Some, None, Option, sym, refl, ap, ◌∙◌, subst, inl, inr, add-one, arith, length-append, get_or-set_other, get_or-set_same}
+use Rattle.std.proofs.Common.{◌≡◌, ℕ, suc, ◌+◌, ◌<◌, ◌≤◌, Bool, List, length, get_or, take, set, Some, None, sym, refl, ap, ◌∙◌, subst, inl, inr, add-one, arith, length-append, get_or-set_other, get_or-set_same}
 use Rattle.std.proofs.lemmas.List.{get_or-take, length-take-le}
 use Rattle.terms.specs.Term.{Term}
 use Rattle.terms.specs.Sig.{Sig}
@@ -10,7 +10,7 @@ use Rattle.enter.specs.Machine.{Grew, Gives}
 use Rattle.enter.proofs.Machining.{none_some}
 use Rattle.enter.proofs.Noting.{grew_same, grew_trans}
 use Rattle.reduction.specs.Steps.{Crowded}
-use Rattle.rebuild.specs.Rebuilds.{Ready, Done, Ended, Rebuilds, Formed}
+use Rattle.rebuild.specs.Rebuilds.{Ready, Rebuilds, Formed}
 use Rattle.rebuild.proofs.Rebuilding.{Forms, starts, ends}
 use Rattle.rebuild.proofs.Forming.{redex_turn, outside_turn, kept_turn, fresh_turn, full_turn, same_cell_there}
 

@@ -1,25 +1,20 @@
 -- The cells below k have their forms: the loop's state.
-use Rattle.std.proofs.Common.{◌≡◌, ℕ, zero, suc, ◌+◌, ◌<◌, ◌≤◌, Bool, true, false, ◌⊎◌, List, [], ◌∷◌, ◌++◌, map, length, get_or, take, Some, None, Option, sym, refl, ap, ◌∙◌, subst, ap₂, inl, inr, append_assoc, append-nil, arith, length-append}
-use mathlib.Core.Bool.{false≢true}
+use Rattle.std.proofs.Common.{◌≡◌, ℕ, suc, ◌<◌, Bool, List, [], ◌++◌, get_or, Some, None, sym, refl, ap, ◌∙◌, subst, inl, inr, append_assoc, append-nil, arith}
 use native.Mathlib.Decide.{ℕ_discrete}
-use Rattle.std.proofs.lemmas.List.{same_lists, get_or-take, get_or_default, length-take-le, get_or_append_left}
-use Rattle.lists.specs.Members.{In}
-use Rattle.terms.specs.Term.{Term, Terms, var, app, nil, ◌▹◌, width}
+use Rattle.terms.specs.Term.{Term}
 use Rattle.terms.specs.Sig.{Sig}
 use Rattle.bank.specs.declared.cell.Cell.{Cell}
-use Rattle.bank.specs.declared.cell.Cell.TheVariants.{Var, App}
-use Rattle.bank.specs.Rules.{Rules, Slots, Node}
-use Rattle.bank.specs.Means.{Means, MeansAll, is_var, is_app, none, and}
-use Rattle.bank.proofs.Readings.{node, same, grown, means_within, means_one, reads, open_var, open_app, tall}
-use Rattle.enter.specs.Enter.{note, chain, fill, blank, enter, enters}
-use Rattle.enter.proofs.Machining.{none_some, both, chain_some}
-use Rattle.enter.proofs.Growing.{some_eq, note_law, Noted}
-use Rattle.reduction.specs.Reaches.{Reaches, root, argument}
-use Rattle.reduction.specs.Replaced.{replace, replaces, Inside}
-use Rattle.reduction.specs.Steps.{Changes, Turn, Rebuilt, Crowded}
-use Rattle.reduction.proofs.Presence.{present, presents, slots_filled}
-use Rattle.reduction.proofs.Replacing.{not_inside_itself, part_cases, part_decided, inside_decided, replaced_itself, replaced_app, replaced_var, untouched, replaced_width}
-use Rattle.rebuild.specs.Forms.{Slotted, Mapped}
+use Rattle.bank.specs.Rules.{Rules}
+use Rattle.bank.specs.Means.{Means}
+use Rattle.bank.proofs.Readings.{grown, means_one}
+use Rattle.enter.specs.Enter.{enter}
+use Rattle.enter.proofs.Machining.{none_some}
+use Rattle.enter.proofs.Growing.{some_eq}
+use Rattle.reduction.specs.Reaches.{Reaches, root}
+use Rattle.reduction.specs.Replaced.{replace, Inside}
+use Rattle.reduction.specs.Steps.{Turn, Rebuilt, Crowded}
+use Rattle.reduction.proofs.Presence.{present}
+use Rattle.reduction.proofs.Replacing.{part_cases, part_decided, inside_decided, replaced_itself, untouched}
 use Rattle.rebuild.specs.Rebuilds.{Ready, Done}
 
 module _ (S : Sig) (m : ℕ) (b b₀ : List Cell) (r j v : ℕ) (s s' : Term) (marks : List Bool) (ready : Ready S b b₀ r j v s s' marks) where

@@ -1,6 +1,5 @@
 -- Arguments changed slot by slot: ys are the new ones after k slots.
-use Rattle.std.proofs.Common.{◌≡◌, ℕ, zero, suc, ◌+◌, ◌<◌, ◌≤◌, ◌≢◌, List, [], ◌∷◌, length, get_or, set, sym, refl, ap, ◌∙◌, subst, arith, length-set, get_or-set_other, get_or-set_same, below_more}
-use native.Mathlib.Decide.{ℕ_discrete}
+use Rattle.std.proofs.Common.{◌≡◌, ℕ, zero, suc, ◌+◌, ◌<◌, ◌≤◌, ◌≢◌, List, [], ◌∷◌, length, get_or, set, sym, refl, ◌∙◌, arith, length-set, get_or-set_other, get_or-set_same, below_more}
 use Rattle.rebuild.specs.Forms.{Slotted}
 
 pub record Slotting (a : ℕ) (forms args : List ℕ) (k : ℕ) (ys : List ℕ) : Type 0 where

@@ -1,5 +1,5 @@
 -- A run in a bank, as what it does to terms.
-use Rattle.std.proofs.Common.{◌≡◌, ℕ, ◌<◌, List, [], ◌∷◌, length, Some, sym, refl, ◌∙◌, subst, ap₂, arith}
+use Rattle.std.proofs.Common.{◌≡◌, ℕ, List, Some, sym, refl, ◌∙◌, subst, ap₂, arith}
 use Rattle.terms.specs.Term.{Term, sub}
 use Rattle.terms.specs.Sig.{Sig}
 use Rattle.terms.specs.Patterns.{term_of}
@@ -10,15 +10,14 @@ use Rattle.enter.specs.Grown.{Part}
 use Rattle.enter.proofs.Rooms.{part_stands}
 use Rattle.trace.specs.declared.Side.{Side}
 use Rattle.trace.specs.declared.Step.{Step}
-use Rattle.reduction.specs.declared.oriented.Oriented.{Oriented}
 use Rattle.reduction.specs.declared.outcome.Outcome.{Outcome}
 use Rattle.reduction.specs.declared.outcome.Outcome.TheVariants.{Finished, Spent, NoRoom}
 use Rattle.reduction.specs.Reaches.{Reaches}
-use Rattle.reduction.specs.Redexes.{Equations, highers, higher_side, Picked, Normal}
+use Rattle.reduction.specs.Redexes.{Equations, highers, higher_side, Normal}
 use Rattle.reduction.specs.Replaced.{replace}
-use Rattle.reduction.specs.Steps.{Stepped, Redex}
+use Rattle.reduction.specs.Steps.{Stepped}
 use Rattle.reduction.specs.Runs.{Run, finished, spent, blocked, step}
-use Rattle.reduction.specs.Laws.{Rewrites, Leads, stays, steps, NormalForm, Comes}
+use Rattle.reduction.specs.Laws.{Rewrites, stays, steps, NormalForm, Comes}
 use Rattle.reduction.proofs.Subterms.{reached_part, part_reached}
 use Rattle.bank.proofs.Readings.{means_one}
 

@@ -1,5 +1,5 @@
 -- Entering a term that stands in the bank finds it, and changes nothing.
-use Rattle.std.proofs.Common.{◌≡◌, ℕ, zero, suc, ◌+◌, ◌<◌, ◌≤◌, List, [], ◌∷◌, ◌++◌, length, get_or, take, Some, None, Option, sym, refl, ap, ◌∙◌, subst, ap₂, inl, inr, arith}
+use Rattle.std.proofs.Common.{◌≡◌, ℕ, ◌<◌, ◌≤◌, List, [], ◌∷◌, length, get_or, take, Some, None, Option, sym, refl, ap, ◌∙◌, subst, ap₂, inl, inr, arith}
 use Rattle.std.proofs.lemmas.List.{same_lists, get_or-take, get_or_default, get_or_past, length-take-le}
 use Rattle.std.proofs.lemmas.Bool.{cases_lt}
 use Rattle.terms.specs.Term.{Term, Terms, var, app, nil, ◌▹◌, width, sub, subs}
@@ -11,10 +11,9 @@ use Rattle.bank.specs.Means.{Means, MeansAll, is_var, is_app, none, and}
 use Rattle.bank.specs.Bindings.{Binds}
 use Rattle.bank.proofs.Readings.{node, tall}
 use Rattle.enter.specs.Enter.{noted, note, chain, fill, blank, bound, enter, enters}
-use Rattle.enter.specs.Grown.{Grown}
 use Rattle.enter.proofs.Noting.{place_some}
 use Rattle.enter.proofs.Machining.{both, chain_some, chain_none}
-use Rattle.enter.proofs.Growing.{Modest, AllModest, GrownAll, Filled, filled, chain_inv, some_eq, same_width, enter_law, binds_grown}
+use Rattle.enter.proofs.Growing.{Modest, AllModest, filled, same_width, enter_law, binds_grown}
 
 -- the slots of a cell that keeps the rules are filled by its arguments
 pub slots_filled : (i a : ℕ) (args : List ℕ) → a ≤ 4 → Slots i a args → fill blank 0 (take a args) ≡ args

@@ -1,7 +1,6 @@
 -- Laws of replacing every occurrence of a term.
-use Rattle.std.proofs.Common.{◌≡◌, ℕ, suc, ◌+◌, ◌<◌, ◌≤◌, ◌⊎◌, sym, refl, ap, ◌∙◌, subst, ap₂, inl, inr, arith}
+use Rattle.std.proofs.Common.{◌≡◌, ℕ, suc, ◌<◌, ◌≤◌, ◌⊎◌, sym, refl, ap, ◌∙◌, subst, ap₂, inl, inr, arith}
 use Rattle.terms.specs.Term.{Term, Terms, var, app, nil, ◌▹◌, width, cells, cellss, Term_discrete}
-use Rattle.terms.specs.Sig.{Sig, Over, AllOver}
 use Rattle.enter.specs.Grown.{Part, Parts}
 use Rattle.reduction.specs.Replaced.{replace, replaces, Inside}
 

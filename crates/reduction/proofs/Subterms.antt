@@ -1,8 +1,8 @@
 -- A cell is reached from another exactly if its term is a subterm of the other's.
-use Rattle.std.proofs.Common.{◌≡◌, ℕ, ◌<◌, ◌≤◌, ◌⊎◌, List, [], ◌∷◌, length, get_or, take, sym, refl, ◌∙◌, subst, inl, inr, arith}
+use Rattle.std.proofs.Common.{◌≡◌, ℕ, ◌<◌, ◌≤◌, List, length, get_or, take, sym, refl, ◌∙◌, subst, inl, inr, arith}
 use Rattle.std.proofs.lemmas.List.{get_or-take, length-take-le}
 use Rattle.lists.specs.Members.{In}
-use Rattle.lists.proofs.Members.{Place, place}
+use Rattle.lists.proofs.Members.{place}
 use Rattle.terms.specs.Term.{Term, Terms, var, app, nil, ◌▹◌}
 use Rattle.terms.specs.Sig.{Sig}
 use Rattle.bank.specs.declared.cell.Cell.{Cell}

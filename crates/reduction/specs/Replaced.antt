@@ -1,5 +1,4 @@
 -- Every occurrence of a term replaced.
-use Rattle.std.specs.Prelude.{ℕ}
 use Rattle.terms.specs.Term.{Term, Terms, var, app, nil, ◌▹◌, Term_discrete}
 use Rattle.enter.specs.Grown.{Parts}
 

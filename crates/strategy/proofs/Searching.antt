@@ -1,5 +1,5 @@
 -- The search has passed the cells below k.
-use Rattle.std.proofs.Common.{◌≡◌, ℕ, ◌+◌, ◌<◌, ◌≤◌, Bool, true, false, List, [], length, get_or, take, set, Some, None, Decides, Option, sym, refl, ◌∙◌, subst, inl, inr, arith, get_or-set_other, get_or-set_same, below_more}
+use Rattle.std.proofs.Common.{◌≡◌, ℕ, ◌+◌, ◌<◌, ◌≤◌, Bool, true, false, List, length, get_or, set, Some, None, Decides, Option, sym, ◌∙◌, subst, inl, inr, arith, get_or-set_other, below_more}
 use mathlib.Core.Bool.{false≢true}
 use native.Mathlib.Decide.{ℕ_discrete}
 use Rattle.std.proofs.lemmas.Bool.{cases_lt}
@@ -11,7 +11,7 @@ use Rattle.index.specs.Found.{Generalizes, Generalizations}
 use Rattle.reduction.specs.Reaches.{Reaches}
 use Rattle.reduction.specs.Redexes.{Picked, Normal}
 use Rattle.reduction.proofs.Subterms.{reached_below}
-use Rattle.strategy.specs.Searches.{Lowest, Searchable, Least, LowestAt, Settled, Choice}
+use Rattle.strategy.specs.Searches.{Lowest, Searchable, Least, LowestAt, Settled}
 
 -- the lowest of what an exact index finds
 pub least : (m : Map) (b : List Cell) (i : ℕ) (xs : List ℕ) (o : Option ℕ) → Generalizations m b i xs → Lowest xs o → Least m b i o

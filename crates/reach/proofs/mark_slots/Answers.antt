@@ -1,5 +1,4 @@
-use Rattle.std.proofs.Common.{◌≡◌, ℕ, ◌<◌, length, get_or, sym, subst, inl, inr, arith, rules}
-use Rattle.reach.specs.Marks.{Adding}
+use Rattle.std.proofs.Common.{arith, rules}
 use Rattle.reach.proofs.Marking.{starts, passes, marks, at_last}
 use Rattle.reach.proofs.mark_slots.Goals as goal
 use Rattle.reach.proofs.mark_slots.Goals.{then-k-arity+then-arg-marks, else-k-arity, else-k-arity-via-then-k-arity+else-arg-marks, else-k-arity-via-else-k-arity}

@@ -1,4 +1,3 @@
-use Rattle.std.proofs.Common.{◌≡◌, length}
 use Rattle.reach.specs.Marks.{Adding}
 use Rattle.reach.proofs.mark_slots.Given as goal
 

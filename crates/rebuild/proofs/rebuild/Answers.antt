@@ -1,4 +1,4 @@
-use Rattle.std.proofs.Common.{◌<◌, ◌≤◌, length, refl, inl, inr, arith}
+use Rattle.std.proofs.Common.{refl, inl, inr, arith}
 use Rattle.enter.proofs.Noting.{grew_same, grew_trans}
 use Rattle.rebuild.proofs.Looping.{begins, next, crowds, done, root_counted}
 use Rattle.rebuild.proofs.rebuild.Goals as goal

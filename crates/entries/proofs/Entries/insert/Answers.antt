@@ -23,8 +23,8 @@ returns-then-self g c =
     let p = subst (λ es. Placed es n c.place.result) c.items.ensures c.place.ensures in
     (λ k. refl, inr (placed_none (entries_of s) n c.place.result p (search rules), omega (arith, size s, c.if-self.true), refl))
 
-pub invariant-of-self : goal.invariant-of-self
-invariant-of-self g c =
+pub invariant_of-self : goal.invariant_of-self
+invariant_of-self g c =
     let s = c.args.self.now in
     let n = c.args.number in
     let e : Entry = record { number = n; pattern = c.args.pattern.now } in
@@ -32,7 +32,11 @@ invariant-of-self g c =
     let free = placed_none (entries_of s) n c.place.result p (search rules) in
     let l : s.len < length s.items = omega (arith, s.room, c.if-self.false) in
     let pushed : take (s.len + 1) (set s.items s.len e) ≡ entries_of s ++ e ∷ [] = take_more_set s.items s.len e l in
-    (length-set s.items s.len e ∙ s.room, (omega (arith, c.if-self.false), (once_distinct (numbers (take (s.len + 1) (set s.items s.len e))) (rw pushed (once_push (entries_of s) e (apart s) free)), tt)))
+    record {
+      room = length-set s.items s.len e ∙ s.room;
+      within = omega (arith, c.if-self.false);
+      apart = once_distinct (numbers (take (s.len + 1) (set s.items s.len e))) (rw pushed (once_push (entries_of s) e (apart s) free));
+    }
 
 pub returns : goal.returns
 returns g c =

@@ -8,20 +8,28 @@ use Rattle.entries.proofs.Moves.{once_front}
 use Rattle.entries.proofs.Stores.{apart, removed}
 use Rattle.entries.proofs.Entries.remove.Goals as goal
 
-pub invariant-of-self : goal.invariant-of-self
-invariant-of-self g c =
+pub invariant_of-self : goal.invariant_of-self
+invariant_of-self g c =
     let s = c.args.self.now in
     let front : take (s.len - 1) (entries_of s) ≡ take (s.len - 1) s.items = take-take (s.len - 1) s.len s.items (omega arith) in
-    (s.room, (omega (arith, s.within), (once_distinct (numbers (take (s.len - 1) s.items)) (rw front at (once_front (s.len - 1) (entries_of s) (apart s))), tt)))
+    record {
+      room = s.room;
+      within = omega (arith, s.within);
+      apart = once_distinct (numbers (take (s.len - 1) s.items)) (rw front at (once_front (s.len - 1) (entries_of s) (apart s)));
+    }
 
-pub invariant-of-self-2 : goal.invariant-of-self-2
-invariant-of-self-2 g c =
+pub invariant_of-self-2 : goal.invariant_of-self-2
+invariant_of-self-2 g c =
     let s = c.args.self.now in
     let i = c.in-Some.at in
     let d = c.index-self-self.result in
     let p = subst (λ es. Placed es c.args.number (Some i)) c.items.ensures c.in-Some.ensures in
     let l = get_or s.items (s.len - 1) d in
-    (length-set s.items i l ∙ s.room, (omega (arith, s.within), (once_distinct (numbers (take (s.len - 1) (set s.items i l))) (removed s c.args.number i d p).once, tt)))
+    record {
+      room = length-set s.items i l ∙ s.room;
+      within = omega (arith, s.within);
+      apart = once_distinct (numbers (take (s.len - 1) (set s.items i l))) (removed s c.args.number i d p).once;
+    }
 
 pub returns : goal.returns
 returns g c =
