@@ -6,13 +6,10 @@ use Rattle.terms.specs.Sig.{Sig, Over}
 use Rattle.terms.specs.Patterns.{term_of}
 use Rattle.terms.specs.declared.pattern.Pattern.{Pattern}
 use Rattle.bank.specs.declared.cell.Cell.{Cell}
-use Rattle.bank.specs.Bindings.{Binds}
 use Rattle.bank.specs.Bindings.{Instance as Match}
-use Rattle.bank.specs.Means.{Means}
 use Rattle.bank.specs.Checked.{Sized}
-use Rattle.bank.proofs.Readings.{laws, reads, means_within}
+use Rattle.bank.proofs.Readings.{reads, means_within}
 use Rattle.index.specs.Maps.{Map}
-use Rattle.index.specs.Found.{Generalizes}
 use Rattle.enter.specs.Enter.{enter}
 use Rattle.enter.specs.Grown.{Grown}
 use Rattle.enter.specs.Machine.{Grew}
@@ -24,10 +21,10 @@ use Rattle.reduction.specs.declared.oriented.Oriented.{Oriented}
 use Rattle.reduction.specs.Redexes.{Equations, higher_side, lower_side}
 use Rattle.reduction.specs.Steps.{Redex, Stepped, Blocked}
 use Rattle.reduction.proofs.Presence.{entered_instance}
-use Rattle.rebuild.specs.Rebuilds.{Ready, Done, Ended, Rebuilds}
+use Rattle.rebuild.specs.Rebuilds.{Ready, Ended, Rebuilds}
 use Rattle.apply.specs.declared.Applied.{Applied}
 use Rattle.apply.specs.Enters.{Enters}
-use Rattle.apply.specs.Applies.{Redo, Taken, Outcome}
+use Rattle.apply.specs.Applies.{Redo, Taken}
 
 -- an equation by one of its sides
 pub record Sides (E : Equations) (k : ℕ) (higher : Pattern) : Type 0 where

@@ -95,6 +95,7 @@ fn changed_cell(cell: Cell, forms: &[u16]) -> Cell
     }
 }
 
+#[tactic(auto, using(crate::proofs::Slotting::fills, crate::proofs::Slotting::stays))]
 fn changed_args(arity: usize, args: [u16; 4], forms: &[u16]) -> [u16; 4]
     ensures { Slotted arity forms.now args result }
 {
