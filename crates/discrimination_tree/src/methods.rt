@@ -4,7 +4,7 @@ ghost use Rattle.index.specs.Questions.{Asked};
 ghost use Rattle.entries.specs.Stored.{map_of, numbers_of};
 ghost use Rattle.discrimination_tree.specs.Loose.{LooseGeneralizations};
 ghost use Rattle.entries.proofs.Stores;
-ghost use Rattle.std.proofs.Common.{rules, arith};
+ghost use Rattle.std.proofs.Common.{rules};
 
 use super::DiscriminationTree;
 use bank::cell::Cell;
@@ -45,9 +45,9 @@ impl Index for DiscriminationTree {
 
     ghost numbers = { λ s. numbers_of s.entries };
 
-    ghost least = { first_of (Prim.search rules, Prim.grind (arith, Self.row.coded.inj)) };
+    ghost least = { Prim.search rules };
 
-    ghost most = { first_of (Prim.search rules, Prim.grind (arith, Self.row.coded.inj)) };
+    ghost most = { Prim.search rules };
 
     ghost stores = { λ s. Stores.stores s.entries };
 
