@@ -2,7 +2,6 @@
 #![tactic(auto)]
 
 ghost use Rattle.std.specs.Prelude.{◌≡◌};
-ghost use Rattle.std.proofs.Common.{rules};
 
 use bank::cell::Cell;
 use choose::choose;
@@ -44,13 +43,13 @@ impl<I: Index> Index for Filter<I> {
 
     ghost numbers = { λ s. I.Index.numbers s.inner };
 
-    ghost least = { Prim.search rules };
+    ghost least = { I.Index.least };
 
-    ghost most = { Prim.search rules };
+    ghost most = { I.Index.most };
 
     ghost stores = { λ s. I.Index.stores s.inner };
 
-    ghost fits = { Prim.search rules };
+    ghost fits = { λ s. I.Index.fits s.inner };
 
     fn clear(&mut self) {
         self.inner.clear();

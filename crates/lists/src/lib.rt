@@ -1,3 +1,2 @@
 // Membership in lists, in specs/ and proofs/: it has no code.
 #![tactic(auto)]
-

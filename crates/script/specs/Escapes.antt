@@ -1,7 +1,7 @@
 -- A text between double quotes, with its escapes.
 use Rattle.std.specs.Prelude.{◌≡◌, ℕ, ◌+◌, ◌-◌, ◌*◌, ◌/◌, ◌%◌, ◌<◌, Bool, cond, ◌||◌, List, [], ◌∷◌, ◌++◌, Some, None, Option, ◌==◌, ◌≢◌, nat_lt}
 use Rattle.std.specs.Int.{is_in_range}
-use Rattle.std.specs.List.{flat_map, AllByRecursion as All}
+use Rattle.std.specs.List.{flat_map, AllByRecursion}
 
 -- the letters of \n, \t, \r, \\ and \"
 abbrev pub short : ℕ → Option ℕ
@@ -57,8 +57,8 @@ as_code b = 92 ∷ (120 ∷ (hex_letter (b / 16) ∷ (hex_letter (b % 16) ∷ []
 
 -- every text of bytes can be written, each byte by its code
 abbrev pub CodesStand : Type 0
-CodesStand = (bs : List ℕ) → All (λ b. b < 256) bs → unescaped (flat_map as_code bs) ≡ Some bs
+CodesStand = (bs : List ℕ) → AllByRecursion (λ b. b < 256) bs → unescaped (flat_map as_code bs) ≡ Some bs
 
 -- a text without '"', '\' and line feeds stands for itself
 abbrev pub PlainStand : Type 0
-PlainStand = (bs : List ℕ) → All (λ b. (b ≢ 34) × (b ≢ 92) × (b ≢ 10)) bs → unescaped bs ≡ Some bs
+PlainStand = (bs : List ℕ) → AllByRecursion (λ b. (b ≢ 34) × (b ≢ 92) × (b ≢ 10)) bs → unescaped bs ≡ Some bs

@@ -6,7 +6,6 @@ use Rattle.signature.specs.Signatures.{sig_of, names_of}
 use Rattle.signature.specs.Written.{written}
 use Rattle.signature.specs.declared.signature.Signature.{Signature}
 use Rattle.bank.specs.declared.cell.Cell.{Cell}
-use Rattle.bank.specs.Rules.{Rules}
 use Rattle.bank.proofs.Readings.{laws}
 use Rattle.enter.specs.Grown.{Grown}
 use Rattle.writer.specs.Outcome.{Wrote}

@@ -1,6 +1,6 @@
 -- Reading a text gives one thing only: two rows of well-formed lines at the front of one text agree ls far ls both go.
 use Rattle.std.proofs.Common.{◌≡◌, ℕ, suc, ◌<◌, ◌≤◌, List, [], ◌∷◌, ◌++◌, length, Ok, Err, sym, refl, ap, ◌∙◌, subst, ap₂, inl, inr, append_assoc, append-nil, arith, length-append}
-use Rattle.std.specs.List.{flat_map, AllByRecursion as All}
+use Rattle.std.specs.List.{flat_map, AllByRecursion}
 use Rattle.refusal.specs.declared.Refusal.{Refusal}
 use Rattle.refusal.specs.declared.Refusal.TheVariants.{SignatureLine}
 use Rattle.signature.specs.Texts.{Line, text_of, WellFormed, Sound, Accepted, Refused, ReadsOnce}
@@ -17,7 +17,7 @@ extend a b ls ms x y e (same p q) = same (ap₂ ◌∷◌ e p) q
 extend a b ls ms x y e (left_ends c more p q) = left_ends c more (ap₂ ◌∷◌ (sym e) p) q
 extend a b ls ms x y e (right_ends c more p q) = right_ends c more (ap₂ ◌∷◌ e p) q
 
-compare : (ls ms : List Line) (x y : List ℕ) → All WellFormed ls → All WellFormed ms → flat_map text_of ls ++ x ≡ flat_map text_of ms ++ y → Compared ls ms x y
+compare : (ls ms : List Line) (x y : List ℕ) → AllByRecursion WellFormed ls → AllByRecursion WellFormed ms → flat_map text_of ls ++ x ≡ flat_map text_of ms ++ y → Compared ls ms x y
 compare [] [] x y ha hb e = same refl e
 compare [] (b ∷ ms) x y ha hb e = left_ends b ms refl (e ∙ append_assoc (text_of b) (flat_map text_of ms) y)
 compare (a ∷ ls) [] x y ha hb e = right_ends a ls refl (sym e ∙ append_assoc (text_of a) (flat_map text_of ls) x)

@@ -1,6 +1,6 @@
 -- Good lines: one more, fewer, and those of symbols.
 use Rattle.std.proofs.Common.{◌≡◌, ℕ, ◌+◌, ◌<◌, ◌≤◌, ◌⊎◌, List, [], ◌∷◌, ◌++◌, map, length, get_or, take, set, sym, refl, ap, ◌∙◌, subst, inl, inr, append_assoc, arith, length-append, length-take}
-use Rattle.std.specs.List.{flat_map, AllByRecursion as All}
+use Rattle.std.specs.List.{flat_map, AllByRecursion}
 use Rattle.std.proofs.lemmas.Bool.{cases_lt}
 use Rattle.std.proofs.lemmas.List.{get_or_append_left, get_or_push, length_push, get_or_default, map-append, map_push, length-map, length-take-le, take_more_set, flat_map_more}
 use Rattle.refusal.specs.declared.Refusal.TheVariants.{SignatureLine}
@@ -32,11 +32,11 @@ apart_last ns n h k within e =
     let size = length_push ns n in
     h k (length ns) [] within (omega arith) (get_or_append_left ns (n ∷ []) [] k within ∙ e ∙ sym (get_or_push ns n [] (length ns) refl))
 
-all_front : {X : Type 0} (P : X → Type 0) (xs ys : List X) → All P (xs ++ ys) → All P xs
+all_front : {X : Type 0} (P : X → Type 0) (xs ys : List X) → AllByRecursion P (xs ++ ys) → AllByRecursion P xs
 all_front P [] ys h = tt
 all_front P (x ∷ xs) ys h = (h.0, all_front P xs ys h.1)
 
-all_last : {X : Type 0} (P : X → Type 0) (xs : List X) (x : X) → All P (xs ++ x ∷ []) → P x
+all_last : {X : Type 0} (P : X → Type 0) (xs : List X) (x : X) → AllByRecursion P (xs ++ x ∷ []) → P x
 all_last P [] x h = h.0
 all_last P (y ∷ xs) x h = all_last P xs x h.1
 
@@ -61,7 +61,7 @@ well y = record {
   weight_most_lem = y.weight_most;
 }
 
-wells : (ss : List Symbol) → All WellFormed (map line_of ss)
+wells : (ss : List Symbol) → AllByRecursion WellFormed (map line_of ss)
 wells [] = tt
 wells (y ∷ ys) = (well y, wells ys)
 

@@ -1,6 +1,6 @@
 -- The text of a signature, and what reading a text gives.
 use Rattle.std.specs.Prelude.{◌≡◌, ℕ, suc, ◌<◌, ◌≤◌, true, ◌⊎◌, List, [], ◌∷◌, ◌++◌, map, length, Ok, Err, decimal, Result, ◌≢◌}
-use Rattle.std.specs.List.{flat_map, AllByRecursion as All}
+use Rattle.std.specs.List.{flat_map, AllByRecursion}
 use Rattle.refusal.specs.declared.Refusal.{Refusal}
 use Rattle.refusal.specs.declared.Refusal.TheVariants.{SignatureLine}
 use Rattle.signature.specs.Words.{is_word}
@@ -25,7 +25,7 @@ pub record WellFormed (l : Line) : Type 0 where
 
 -- good lines: each is well formed, and no two names are equal
 pub record Sound (ls : List Line) : Type 0 where
-  pub each : All WellFormed ls
+  pub each : AllByRecursion WellFormed ls
   pub apart : Apart (map (λ (l : Line). l.name) ls)
 
 -- the text is that of 1 to 64 good lines

@@ -1,5 +1,5 @@
 -- Places of a pool: those of the tree, those taken besides, and those that were given back.
-use Rattle.std.specs.Prelude.{◌≡◌, ℕ, ◌+◌, ◌-◌, ◌<◌, ◌≤◌, cond, List, [], ◌∷◌, length, Some, None, Option, ◌==◌, nat_lt, slice_index_or}
+use Rattle.std.specs.Prelude.{◌≡◌, ℕ, ◌+◌, ◌<◌, ◌≤◌, cond, List, [], ◌∷◌, length, Some, None, Option, ◌==◌, nat_lt, slice_index_or}
 use Rattle.std.specs.Option.{unwrap_or}
 use Rattle.trie.specs.declared.branch.Label.{Label}
 use Rattle.trie.specs.declared.branch.Branch.{Branch}

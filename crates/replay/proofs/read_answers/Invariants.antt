@@ -1,4 +1,4 @@
-use Rattle.std.proofs.Common.{◌≡◌, length, drop, vec_items}
+use Rattle.std.proofs.Common.{length, drop, vec_items}
 use Rattle.lexer.specs.Tokens.{tokens_from}
 use Rattle.replay.proofs.Reading.{Sofar}
 use Rattle.replay.proofs.read_answers.Given as goal

@@ -24,13 +24,18 @@ pub relink-requires : goal.relink-requires
 relink-requires c =
     link_inside (tree_of c.args.self.now) _ c.in-Absent.link c.in-Absent.at c.in-Absent.ensures c.spell-first.new.nodes c.spell-first.new.marks c.spell-first.result c.spell-first.ensures
 
-pub invariant-of-self-in-Absent : goal.invariant-of-self-in-Absent
-invariant-of-self-in-Absent c =
+pub invariant_of-self-in-Absent : goal.invariant_of-self-in-Absent
+invariant_of-self-in-Absent c =
     let t = c.args.self.now in
     let done = added_carried t c.args.pattern.now c.args.number c.nodes-row.result.now c.nodes-row.ensures c.relink.new.nodes c.relink.new.marks
     (inserts t c.args.pattern.now c.args.number c.nodes-row.result.now c.nodes-row.ensures c.in-Absent.link c.in-Absent.at c.in-Absent.ensures
     c.spell-first.new.nodes c.spell-first.new.marks c.spell-first.result c.spell-first.ensures c.relink.new.nodes c.relink.new.marks c.relink.ensures.nodes c.relink.ensures.marks) in
-    (omega (arith, t.room, c.relink.auto.nodes, c.spell-first.auto.nodes), (done.sound, (done.counted, (omega (arith, c.if-self-ge-MOST.false), tt))))
+    record {
+      room = omega (arith, t.room, c.relink.auto.nodes, c.spell-first.auto.nodes);
+      sound = done.sound;
+      counted = done.counted;
+      few = omega (arith, c.if-self-ge-MOST.false);
+    }
 
 pub returns-in-There : goal.returns-in-There
 returns-in-There c = (inl (there c.args.self.now c.args.pattern.now c.args.number c.nodes-row.result.now c.nodes-row.ensures c.in-There.cut c.in-There.ensures), refl)

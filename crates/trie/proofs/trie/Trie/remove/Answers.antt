@@ -26,14 +26,19 @@ give_back-requires c =
 pub overflow_sub-self : goal.overflow_sub-self
 overflow_sub-self c = some_row c.args.self.now c.args.pattern.now c.args.number c.nodes.result.now c.nodes.ensures c.in-There.cut c.in-There.ensures
 
-pub invariant-of-self-in-There : goal.invariant-of-self-in-There
-invariant-of-self-in-There c =
+pub invariant_of-self-in-There : goal.invariant_of-self-in-There
+invariant_of-self-in-There c =
     let t = c.args.self.now in
     let done = rid_carried c.args.self.now c.args.pattern.now c.args.number c.nodes.result.now c.nodes.ensures c.give_back.new.nodes c.give_back.new.marks
     (removes c.args.self.now c.args.pattern.now c.args.number c.nodes.result.now c.nodes.ensures c.in-There.cut c.in-There.ensures
     c.relink.new.nodes c.relink.new.marks c.follow-first.result c.next_at-next.result c.follow-first.ensures c.next_at-next.ensures c.relink.ensures.nodes c.relink.ensures.marks
     c.give_back.new.nodes c.give_back.new.marks c.give_back.ensures) in
-    (omega (arith, t.room, c.relink.auto.nodes, c.give_back.auto.nodes), (done.sound, (done.counted, (omega (arith, t.few), tt))))
+    record {
+      room = omega (arith, t.room, c.relink.auto.nodes, c.give_back.auto.nodes);
+      sound = done.sound;
+      counted = done.counted;
+      few = omega (arith, t.few);
+    }
 
 pub returns-in-Absent : goal.returns-in-Absent
 returns-in-Absent c = (absent c.args.self.now c.args.pattern.now c.args.number c.nodes.result.now c.nodes.ensures c.in-Absent.link c.in-Absent.at c.in-Absent.ensures, refl)
