@@ -1,5 +1,5 @@
 -- The text of a run's lines.
-use Rattle.std.specs.Prelude.{ℕ, List, [], ◌∷◌, ◌++◌, codes, decimal}
+use Rattle.std.specs.Prelude.{ℕ, List, ◌∷◌, ◌++◌, codes, decimal}
 use Rattle.reduction.specs.declared.outcome.Outcome.{Outcome}
 use Rattle.reduction.specs.declared.outcome.Outcome.TheVariants.{Finished, Spent, NoRoom}
 use Rattle.trace.specs.declared.Side.{Side}

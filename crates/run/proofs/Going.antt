@@ -1,8 +1,7 @@
 -- A goal's run from its two sides' runs.
-use Rattle.std.proofs.Common.{◌≡◌, ℕ, ◌-◌, ◌<◌, ◌≤◌, Bool, true, false, List, [], ◌++◌, length, get_or, take, Ok, sym, refl, ap, ◌∙◌, subst, arith, length-append}
+use Rattle.std.proofs.Common.{◌≡◌, ℕ, ◌-◌, Bool, false, List, ◌++◌, length, get_or, take, Ok, sym, ap, ◌∙◌, subst, arith}
 use mathlib.Core.Bool.{false≢true}
 use Rattle.std.proofs.lemmas.List.{length-take-le}
-use Rattle.terms.specs.Term.{Term}
 use Rattle.terms.specs.Patterns.{term_of}
 use Rattle.terms.specs.Sig.{Sig}
 use Rattle.terms.specs.declared.pattern.Pattern.{Pattern}
@@ -22,8 +21,8 @@ use Rattle.apply.specs.Applies.{Filed}
 use Rattle.strategy.specs.Searches.{Settled}
 use Rattle.run.specs.declared.answer.Ended.{Ended}
 use Rattle.run.specs.declared.answer.Answer.{Answer}
-use Rattle.run.specs.Sides.{Ready, Grown, Ran, SideRun}
-use Rattle.run.specs.Goals.{Both, Stand, EnteredBoth, InLimits, Runs, Sides, Answered, verdict_of}
+use Rattle.run.specs.Sides.{Ready, Ran, SideRun}
+use Rattle.run.specs.Goals.{EnteredBoth, InLimits, Runs, Sides, Answered, verdict_of}
 
 pub none_settled : (m : Map) (b : List Cell) (settled : List Bool) → ((j : ℕ) → get_or settled j false ≡ false) → Settled m b settled
 none_settled m b settled clear = record {

@@ -1,18 +1,18 @@
 -- Turns one after another make a run.
-use Rattle.std.proofs.Common.{◌≡◌, ℕ, suc, ◌+◌, ◌-◌, ◌<◌, ◌≤◌, Bool, List, [], ◌∷◌, ◌++◌, length, take, set, sym, refl, ap, ◌∙◌, subst, append_assoc, append-nil, arith, length-set}
+use Rattle.std.proofs.Common.{◌≡◌, ℕ, suc, ◌+◌, ◌-◌, ◌<◌, Bool, List, [], ◌∷◌, ◌++◌, length, take, sym, refl, ap, ◌∙◌, subst, append_assoc, append-nil, arith, length-set}
 use Rattle.std.proofs.lemmas.List.{take_more_set}
 use Rattle.terms.specs.Sig.{Sig}
 use Rattle.bank.specs.declared.cell.Cell.{Cell}
 use Rattle.index.specs.Maps.{Map}
 use Rattle.reduction.specs.declared.outcome.Outcome.{Outcome}
 use Rattle.reduction.specs.declared.outcome.Outcome.TheVariants.{Finished, Spent, NoRoom}
-use Rattle.reduction.specs.Redexes.{Equations, highers, Picked}
+use Rattle.reduction.specs.Redexes.{Equations}
 use Rattle.reduction.specs.Steps.{Stepped}
 use Rattle.reduction.specs.Runs.{Run, finished, spent, blocked, step}
 use Rattle.trace.specs.declared.Side.{Side}
 use Rattle.trace.specs.declared.Step.{Step}
 use Rattle.run.specs.declared.answer.Ended.{Ended}
-use Rattle.run.specs.Sides.{Ready, Grown, Ran, SideRun, EndsBy, Onward, Halted}
+use Rattle.run.specs.Sides.{Ready, Grown, SideRun, EndsBy, Onward, Halted}
 
 pub record Made (S : Sig) (E : Equations) (m low : Map) (side : Side) (r₀ : ℕ) (cells₀ : List Cell) (n₀ : ℕ) (trace₀ : List Step) (k₀ : ℕ) (r : ℕ) (cells : List Cell) (n : ℕ) (trace : List Step) (k : ℕ) (settled : List Bool) : Type 0 where
   pub steps : List Step

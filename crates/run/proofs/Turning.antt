@@ -1,30 +1,28 @@
 -- One turn, argued from what its calls give.
-use Rattle.std.proofs.Common.{◌≡◌, ℕ, ◌+◌, ◌-◌, ◌<◌, ◌≤◌, Bool, true, false, List, [], ◌++◌, length, get_or, take, set, Some, None, Decides, Option, sym, refl, ap, ◌∙◌, subst, append-nil, arith, length-append}
+use Rattle.std.proofs.Common.{◌≡◌, ℕ, ◌+◌, ◌<◌, ◌≤◌, Bool, false, List, ◌++◌, length, get_or, take, set, Some, None, Decides, Option, sym, refl, ap, ◌∙◌, subst, arith, length-append}
 use Rattle.std.proofs.lemmas.List.{length-take-le}
-use Rattle.terms.specs.Term.{Term, sub}
+use Rattle.terms.specs.Term.{sub}
 use Rattle.terms.specs.Sig.{Sig}
 use Rattle.terms.specs.Patterns.{term_of}
 use Rattle.bank.specs.declared.cell.Cell.{Cell}
-use Rattle.bank.specs.Bindings.{Instance}
 use Rattle.bank.specs.Rules.{Rules}
 use Rattle.bank.specs.Means.{Means}
 use Rattle.bank.proofs.Readings.{reads, grown, means_one}
 use Rattle.index.specs.Maps.{Map, Same}
 use Rattle.index.specs.Found.{Generalizes}
 use Rattle.reach.specs.Marks.{Marked}
-use Rattle.reduction.specs.declared.outcome.Outcome.{Outcome}
 use Rattle.reduction.specs.declared.outcome.Outcome.TheVariants.{Finished, Spent, NoRoom}
 use Rattle.reduction.specs.Reaches.{Reaches}
-use Rattle.reduction.specs.Redexes.{Equations, highers, Picked, Normal}
-use Rattle.reduction.specs.Steps.{Stepped, Blocked}
+use Rattle.reduction.specs.Redexes.{Equations, highers, Picked}
+use Rattle.reduction.specs.Steps.{Stepped}
 use Rattle.reduction.proofs.Subterms.{reached_below}
 use Rattle.strategy.specs.Searches.{Searchable, Settled, Choice, Searched}
 use Rattle.strategy.specs.declared.Redex.{Redex}
-use Rattle.apply.specs.Applies.{Filed, Redo, Taken, Applies}
+use Rattle.apply.specs.Applies.{Redo, Applies}
 use Rattle.apply.specs.declared.Applied.{Applied}
 use Rattle.trace.specs.declared.Side.{Side}
 use Rattle.trace.specs.declared.Step.{Step}
-use Rattle.run.specs.Sides.{Ready, Grown, EndsBy, Onward, Halted}
+use Rattle.run.specs.Sides.{Ready, Onward, Halted}
 
 -- one map for another
 module _ (m m' : Map) (same : Same m' m) where

@@ -1,5 +1,5 @@
 -- A goal's run: m has the higher sides, low the lower sides; n cells of the bank and k records of the trace are counted.
-use Rattle.std.specs.Prelude.{◌≡◌, ℕ, ◌-◌, ◌<◌, ◌≤◌, cond, ◌⊎◌, List, [], ◌++◌, length, take, Some, None, Ok, Err, Result, ◌==◌, ◌≢◌}
+use Rattle.std.specs.Prelude.{◌≡◌, ℕ, ◌-◌, ◌≤◌, cond, ◌⊎◌, List, [], ◌++◌, length, take, Some, Ok, Err, Result, ◌==◌, ◌≢◌}
 use Rattle.refusal.specs.declared.Refusal.{Refusal}
 use Rattle.refusal.specs.declared.Refusal.TheVariants.{Limits, GoalTooLarge}
 use Rattle.terms.specs.Term.{Term}
@@ -17,7 +17,7 @@ use Rattle.reduction.specs.declared.outcome.Outcome.{Outcome}
 use Rattle.reduction.specs.declared.outcome.Outcome.TheVariants.{Finished, Spent, NoRoom}
 use Rattle.reduction.specs.Redexes.{Equations}
 use Rattle.reduction.specs.Runs.{Run}
-use Rattle.reduction.specs.Laws.{Leads, NormalForm, Comes}
+use Rattle.reduction.specs.Laws.{Leads, NormalForm}
 use Rattle.trace.specs.declared.Side.TheVariants.{Left, Right}
 use Rattle.trace.specs.declared.Step.{Step}
 use Rattle.apply.specs.Applies.{Filed}

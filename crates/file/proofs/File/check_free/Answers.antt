@@ -1,5 +1,4 @@
-use Rattle.std.proofs.Common.{◌≡◌, false, length, is_ok, sym, refl, ◌∙◌, inr, arith}
-use Rattle.entries.specs.Stored.{numbers_of}
+use Rattle.std.proofs.Common.{sym, refl, ◌∙◌, inr, arith}
 use Rattle.file.proofs.Pairs.{free}
 use Rattle.file.proofs.Sizes.{sizes}
 use Rattle.file.proofs.File.check_free.Goals as goal

@@ -1,4 +1,4 @@
-use Rattle.std.proofs.Common.{refl, arith}
+use Rattle.std.proofs.Common.{refl}
 use Rattle.run.proofs.side.run_side.Goals as goal
 use Rattle.run.proofs.Looping.{starts, next, ends, less}
 

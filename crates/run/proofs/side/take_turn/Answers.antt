@@ -1,4 +1,4 @@
-use Rattle.std.proofs.Common.{refl, arith}
+use Rattle.std.proofs.Common.{refl}
 use Rattle.run.proofs.side.take_turn.Goals as goal
 use Rattle.run.proofs.Turning.{finishes, spends, blocks, goes_on}
 
