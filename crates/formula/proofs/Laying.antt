@@ -81,7 +81,7 @@ module _ (s : Signature) where
     pub args_row : {ts us : List Lexeme} {xs : Trees} → Args ts xs us → (vs : List (List ℕ)) (ns : List Node) → row_of s vs ns ts ≡ after s (laid s vs ns (cellss xs)) us
     args_row (last {c = c} {rest = us} {t = t} term k) vs ns =
         term_row term vs ns ∙ passes c (closing k) (laid s vs ns (cells t)) us ∙ ap (λ cs. after s (laid s vs ns cs) us) (sym (append-nil (cells t)))
-    args_row (more {m = m} {us = ts} {rest = us} {t = t} {more-trees = xs} term k args) vs ns =
+    args_row (more {m = m} {us = ts} {rest = us} {t = t} {more_trees = xs} term k args) vs ns =
         term_row term vs ns ∙ passes m (comma k) (laid s vs ns (cells t)) ts ∙ chain (laid s vs ns (cells t)) ts us (cellss xs) (λ ws ms. args_row args ws ms) ∙ ap (λ r. after s r us) (sym (laid_append vs ns (cells t) (cellss xs)))
 
   -- a side with the tokens that are left behind it

@@ -9,7 +9,7 @@ use Rattle.terms.specs.declared.pattern.Node.{Node}
 use Rattle.terms.specs.declared.pattern.Node.TheVariants.{Var, App}
 use Rattle.signature.specs.Signatures.{sig_of}
 use Rattle.signature.specs.declared.signature.Signature.{Signature}
-use Rattle.signature.proofs.Symbols.{arity_most_lem}
+use Rattle.signature.proofs.Symbols.{arity_within}
 use Rattle.lexer.specs.Tokens.{Lexeme}
 use Rattle.lexer.specs.declared.token.Kind.TheVariants.{Word, Variable}
 use Rattle.grammar.specs.Kinds.{same_bytes, same_kind}
@@ -164,7 +164,7 @@ module _ (s : Signature) where
     args_laid (last {t = t} term k) h vs ns p e =
         let r = term_laid term (none_left (uses t) [] h) vs ns p (ap (laid s vs ns) (sym (append-nil (cells t))) ∙ e) in
         record { extends = r.extends; are = λ ws x. r.are ws x ∙ ap (λ ms. ns ++ ms) (sym (append-nil (preorder (resolved s ws t)))) }
-    args_laid (more {t = t} {more-trees = xs} term k args) h vs ns p e =
+    args_laid (more {t = t} {more_trees = xs} term k args) h vs ns p e =
         let q = then_on (laid s vs ns (cells t)) (cellss xs) p (sym (laid_append s vs ns (cells t) (cellss xs)) ∙ e) in
         let r = term_laid term (none_left (uses t) (usess xs) h) vs ns q.0 q.1 in
         let a = args_laid args (none_right (uses t) (usess xs) h) q.0.0 q.0.1 p q.2 in
@@ -180,7 +180,7 @@ module _ (s : Signature) where
       by : (ltb (number_in s w) (sig_of s).symbols ≡ true) ⊎ (ltb (number_in s w) (sig_of s).symbols ≡ false) → small n ≡ true
       by (inl t) =
           let is : App (number_in s w) ((sig_of s).arity (number_in s w)) ≡ n = some_same (sym (cond-true _ _ _ t) ∙ e) in
-          ap small (sym is) ∙ and_from _ _ (lt-ltb (number_in s w) 64 (omega (arith, ltb-true (number_in s w) s.count t, s.few))) (lt-ltb ((sig_of s).arity (number_in s w)) 5 (omega (arith, arity_most_lem s (number_in s w))))
+          ap small (sym is) ∙ and_from _ _ (lt-ltb (number_in s w) 64 (omega (arith, ltb-true (number_in s w) s.count t, s.few))) (lt-ltb ((sig_of s).arity (number_in s w)) 5 (omega (arith, arity_within s (number_in s w))))
       by (inr t) = none_some (sym (cond-false _ (Some (App (number_in s w) ((sig_of s).arity (number_in s w)))) None t) ∙ e)
 
   small_more : (ns : List Node) (n : Node) → all_small ns ≡ true → small n ≡ true → all_small (ns ++ n ∷ []) ≡ true

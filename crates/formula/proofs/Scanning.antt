@@ -6,7 +6,7 @@ use Rattle.terms.specs.declared.pattern.Node.{Node}
 use Rattle.terms.specs.declared.pattern.Node.TheVariants.{Var, App}
 use Rattle.signature.specs.Signatures.{sig_of}
 use Rattle.signature.specs.declared.signature.Signature.{Signature}
-use Rattle.signature.proofs.Symbols.{arity_most_lem}
+use Rattle.signature.proofs.Symbols.{arity_within}
 use Rattle.lexer.specs.Tokens.{Lexeme}
 use Rattle.lexer.specs.declared.token.Kind.TheVariants.{Close, Dot, Equal, Unequal}
 use Rattle.grammar.specs.Syntax.{Tree, Trees, Term, Args, variable, constant, applied, last, more, Literal, Sides, sides, Body, bare, wrapped, Is}
@@ -39,7 +39,7 @@ test_right (Some (Var x)) n h = grind (arith, nat_tests)
 test_right (Some (App f a)) n h = grind (arith, nat_tests)
 
 few : (s : Signature) (w : List ℕ) → Few (symbol_of s w)
-few s w = cond_both (ltb (number_in s w) (sig_of s).symbols) _ _ Few (λ _. arity_most_lem s (number_in s w)) (λ _. tt)
+few s w = cond_both (ltb (number_in s w) (sig_of s).symbols) _ _ Few (λ _. arity_within s (number_in s w)) (λ _. tt)
 
 module _ (s : Signature) where
   abbrev use_of : Lexeme → ℕ → Use
@@ -64,7 +64,7 @@ module _ (s : Signature) where
     args_scan (last {c = c} {rest = us} {t = t} term k) w n fs b =
         let all : uses t ++ [] ≡ uses t = append-nil (uses t) in
         term_scan term (rw k refl) (frame w (n + 1) ∷ fs) b ∙ rw (k, all) (ap (λ r. scan s fs (note r (misuse s (uses t) b) w.place) us) (right w (n + 1)))
-    args_scan (more {m = m} {us = vs} {rest = us} {t = t} {more-trees = xs} term k args) w n fs b =
+    args_scan (more {m = m} {us = vs} {rest = us} {t = t} {more_trees = xs} term k args) w n fs b =
         let up : n + 1 + count xs ≡ n + (1 + count xs) = omega arith in
         term_scan term (rw k refl) (frame w (n + 1) ∷ fs) b ∙ rw k (ap (λ c. scan s (record { place = w.place; arity = arity_for s w.bytes; args = c } ∷ fs) (misuse s (uses t) b) vs) (bump_capped (n + 1)) ∙ args_scan args w (n + 1) fs (misuse s (uses t) b) ∙ ap₂ (λ (m : ℕ) (c : Option ℕ). scan s fs (note (not (misused s (use_of w m))) c w.place) us) up (sym (misuse_append s (uses t) (usess xs) b)))
 

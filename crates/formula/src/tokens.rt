@@ -1,7 +1,7 @@
 // Single tokens of a text.
 ghost use Rattle.std.specs.Prelude.{◌≡◌, drop};
 ghost use Rattle.lexer.specs.Tokens.{tokens_from};
-ghost use Rattle.formula.specs.Scans.{opens as opens-with};
+ghost use Rattle.formula.specs.Scans.{opens as opens_with};
 
 use grammar::machine::is_kind;
 use lexer::scanner::next_token;
@@ -23,7 +23,7 @@ pub fn skip_tokens(text: &[u8], at: usize, n: usize) -> usize
 
 // Whether the next token is an opening parenthesis.
 pub fn opens(text: &[u8], at: usize) -> bool
-    ensures { result ≡ opens-with (tokens_from (drop at text.now) at) }
+    ensures { result ≡ opens_with (tokens_from (drop at text.now) at) }
 {
     match next_token(text, at) {
         Some(token) => is_kind(token.kind, Kind::Open),

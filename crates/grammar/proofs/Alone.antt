@@ -4,7 +4,7 @@ use mathlib.Core.Bool.{false≢true}
 use Rattle.std.proofs.lemmas.List.{drop-take, take-take, length-take-le}
 use Rattle.std.proofs.lemmas.Bool.{cases_Bool, cond-true, cond-false, cond_both, and_right}
 use Rattle.signature.specs.Words.{lower, upper}
-use Rattle.lexer.specs.Tokens.{Lexeme, first, front_length, block_length_lem, block, blank, starts, mark, tokens, tokens_from}
+use Rattle.lexer.specs.Tokens.{Lexeme, first, front_length, length_of_block, block, blank, starts, mark, tokens, tokens_from}
 use Rattle.lexer.specs.Next.{end_of}
 use Rattle.lexer.specs.declared.token.Kind.{Kind}
 use Rattle.lexer.specs.declared.token.Kind.TheVariants.{Word, Variable, Open, Close, Comma, Dot, Unequal, Stray}
@@ -113,8 +113,8 @@ dot_alone b bs m e0 = at_blank (cases_Bool (blank b))
     at_unequal x y (inl t) e = other_kind Unequal _ m (sym (cond-true _ _ _ t) ∙ e) (λ z. omega arith)
     at_unequal x y (inr t) e = at_lower x y (cases_Bool (lower b)) (sym (cond-false _ _ _ t) ∙ e)
 
-    at_block : blank b ≡ false → eqb b 37 ≡ false → ((eqb b 47 && starts 42 bs) ≡ true) ⊎ ((eqb b 47 && starts 42 bs) ≡ false) → cond (eqb b 47 && starts 42 bs) (block (block_length_lem (drop 1 bs))) (cond (eqb b 33 && starts 61 bs) (Piece Unequal 2) (cond (lower b) (Piece Word (1 + front_length Wordly bs)) (cond (upper b) (Piece Variable (1 + front_length Wordly bs)) (Piece (mark b) 1)))) ≡ Piece Dot m → OneDot b m
-    at_block x y (inl t) e = block_dot (block_length_lem (drop 1 bs)) m (sym (cond-true _ _ _ t) ∙ e)
+    at_block : blank b ≡ false → eqb b 37 ≡ false → ((eqb b 47 && starts 42 bs) ≡ true) ⊎ ((eqb b 47 && starts 42 bs) ≡ false) → cond (eqb b 47 && starts 42 bs) (block (length_of_block (drop 1 bs))) (cond (eqb b 33 && starts 61 bs) (Piece Unequal 2) (cond (lower b) (Piece Word (1 + front_length Wordly bs)) (cond (upper b) (Piece Variable (1 + front_length Wordly bs)) (Piece (mark b) 1)))) ≡ Piece Dot m → OneDot b m
+    at_block x y (inl t) e = block_dot (length_of_block (drop 1 bs)) m (sym (cond-true _ _ _ t) ∙ e)
     at_block x y (inr t) e = at_unequal x y (cases_Bool (eqb b 33 && starts 61 bs)) (sym (cond-false _ _ _ t) ∙ e)
 
     at_comment : blank b ≡ false → (eqb b 37 ≡ true) ⊎ (eqb b 37 ≡ false) → OneDot b m

@@ -69,7 +69,7 @@ mutual
   args_once (more {m = m} a k args) (last {c = c} b j) =
       let e = term_once a b (still m Comma k comma_open) (still c Close j close_open) in
       absurd (close_comma (sym j ∙ sym (ap (λ t. t.kind) (head_same e.1)) ∙ k))
-  args_once (more {m = m} {rest = us} {more-trees = xs} a k args) (more {m = n} {us = ns} {rest = vs} {more-trees = ys} b j bs) =
+  args_once (more {m = m} {rest = us} {more_trees = xs} a k args) (more {m = n} {us = ns} {rest = vs} {more_trees = ys} b j bs) =
       let e = term_once a b (still m Comma k comma_open) (still n Comma j comma_open) in
       let f = args_once args (subst (λ (zs : List Lexeme). Args zs ys vs) (sym (tail_same e.1)) bs) in
       (ap₂ ◌▹◌ e.0 f.0, f.1)

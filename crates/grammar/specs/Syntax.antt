@@ -31,7 +31,7 @@ mutual
   -- the arguments behind an opening parenthesis, with the closing one
   pub data Args : List Lexeme → Trees → List Lexeme → Type 0 where
     last : {c : Lexeme} {ts rest : List Lexeme} {t : Tree} → Term ts t (c ∷ rest) → Is Close c → Args ts (t ▹ nil) rest
-    more : {m : Lexeme} {ts us rest : List Lexeme} {t : Tree} {more-trees : Trees} → Term ts t (m ∷ us) → Is Comma m → Args us more-trees rest → Args ts (t ▹ more-trees) rest
+    more : {m : Lexeme} {ts us rest : List Lexeme} {t : Tree} {more_trees : Trees} → Term ts t (m ∷ us) → Is Comma m → Args us more_trees rest → Args ts (t ▹ more_trees) rest
 
 -- two sides and the sign between them
 pub record Literal : Type 0 where

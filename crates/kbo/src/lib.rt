@@ -4,7 +4,7 @@
 ghost use Rattle.signature.specs.Signatures.{sig_of};
 ghost use Rattle.rewriting.specs.Order.{Within};
 ghost use Rattle.rewriting.specs.Kbo.{Kbo};
-ghost use Rattle.signature.proofs.Symbols.{weight_least_lem};
+ghost use Rattle.signature.proofs.Symbols.{weight_some};
 ghost use Rattle.rewriting.proofs.Over.{within};
 ghost use Rattle.rewriting.proofs.Kbo.{kbo_lawful};
 
@@ -24,7 +24,7 @@ pub struct KnuthBendix;
 impl ReductionOrder for KnuthBendix {
     ghost above = { λ o g. Within (sig_of g) (Kbo (sig_of g).weight) };
 
-    ghost reduces = { λ o g. within (sig_of g) (kbo_lawful (sig_of g).weight (weight_least_lem g)) };
+    ghost reduces = { λ o g. within (sig_of g) (kbo_lawful (sig_of g).weight (weight_some g)) };
 
     fn is_above(&self, signature: &Signature, s: &Pattern, t: &Pattern) -> bool {
         are_over(signature, s, t)

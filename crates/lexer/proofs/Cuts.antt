@@ -4,7 +4,7 @@ use Rattle.std.specs.Option.{option_map}
 use Rattle.std.proofs.lemmas.List.{drop-take}
 use Rattle.std.proofs.lemmas.Bool.{cases_Bool, cond-true, cond-false, and_right}
 use Rattle.signature.specs.Words.{lower, upper}
-use Rattle.lexer.specs.Tokens.{goes_over, front_length, block_length_lem, starts, blank, block, mark, first}
+use Rattle.lexer.specs.Tokens.{goes_over, front_length, length_of_block, starts, blank, block, mark, first}
 use Rattle.lexer.specs.declared.token.Kind.TheVariants.{Word, Variable, Unequal}
 use Rattle.lexer.specs.declared.token.First.{First}
 use Rattle.lexer.specs.declared.token.First.TheVariants.{Nothing, Gap, Piece}
@@ -38,15 +38,15 @@ mapped_some : (o : Option ℕ) (m : ℕ) → option_map (λ n. 1 + n) o ≡ Some
 mapped_some None m e = none_some e
 mapped_some (Some k) m e = (k, refl, sym (some_same e))
 
-block_least : (bs : List ℕ) (m : ℕ) → block_length_lem bs ≡ Some m → 2 ≤ m
+block_least : (bs : List ℕ) (m : ℕ) → length_of_block bs ≡ Some m → 2 ≤ m
 block_least [] m e = none_some e
 block_least (b ∷ bs) m e = by (cases_Bool (eqb b 42 && starts 47 bs)) (λ k. block_least bs k)
   where
-    by : ((eqb b 42 && starts 47 bs) ≡ true) ⊎ ((eqb b 42 && starts 47 bs) ≡ false) → ((k : ℕ) → block_length_lem bs ≡ Some k → 2 ≤ k) → 2 ≤ m
+    by : ((eqb b 42 && starts 47 bs) ≡ true) ⊎ ((eqb b 42 && starts 47 bs) ≡ false) → ((k : ℕ) → length_of_block bs ≡ Some k → 2 ≤ k) → 2 ≤ m
     by (inl t) ih = let s = some_same (sym (cond-true _ _ _ t) ∙ e) in omega (arith, s)
-    by (inr t) ih = let r = mapped_some (block_length_lem bs) m (sym (cond-false _ _ _ t) ∙ e) in omega (arith, ih r.0 r.1, r.2)
+    by (inr t) ih = let r = mapped_some (length_of_block bs) m (sym (cond-false _ _ _ t) ∙ e) in omega (arith, ih r.0 r.1, r.2)
 
-block_cut : (bs : List ℕ) (j m : ℕ) → block_length_lem bs ≡ Some m → m ≤ j → block_length_lem (take j bs) ≡ Some m
+block_cut : (bs : List ℕ) (j m : ℕ) → length_of_block bs ≡ Some m → m ≤ j → length_of_block (take j bs) ≡ Some m
 block_cut [] j m e h = none_some e
 block_cut (b ∷ bs) zero m e h = absurd (omega (arith, block_least (b ∷ bs) m e))
 block_cut (b ∷ bs) (suc j) m e h = by (cases_Bool (eqb b 42 && starts 47 bs)) (λ k. block_cut bs j k)
@@ -54,12 +54,12 @@ block_cut (b ∷ bs) (suc j) m e h = by (cases_Bool (eqb b 42 && starts 47 bs)) 
     same : 1 ≤ j → (eqb b 42 && starts 47 (take j bs)) ≡ (eqb b 42 && starts 47 bs)
     same k = ap (λ t. eqb b 42 && t) (starts_cut 47 bs j k)
 
-    by : ((eqb b 42 && starts 47 bs) ≡ true) ⊎ ((eqb b 42 && starts 47 bs) ≡ false) → ((k : ℕ) → block_length_lem bs ≡ Some k → k ≤ j → block_length_lem (take j bs) ≡ Some k) → block_length_lem (b ∷ take j bs) ≡ Some m
+    by : ((eqb b 42 && starts 47 bs) ≡ true) ⊎ ((eqb b 42 && starts 47 bs) ≡ false) → ((k : ℕ) → length_of_block bs ≡ Some k → k ≤ j → length_of_block (take j bs) ≡ Some k) → length_of_block (b ∷ take j bs) ≡ Some m
     by (inl t) ih =
         let s = some_same (sym (cond-true _ _ _ t) ∙ e) in
         cond-true _ _ _ (same (omega (arith, s)) ∙ t) ∙ ap Some s
     by (inr t) ih =
-        let r = mapped_some (block_length_lem bs) m (sym (cond-false _ _ _ t) ∙ e) in
+        let r = mapped_some (length_of_block bs) m (sym (cond-false _ _ _ t) ∙ e) in
         let two = block_least bs r.0 r.1 in
         cond-false _ _ _ (same (omega (arith, two, r.2)) ∙ t) ∙ ap (option_map (λ n. 1 + n)) (ih r.0 r.1 (omega (arith, r.2))) ∙ ap Some (sym r.2)
 
@@ -73,7 +73,7 @@ mapped_none : (o : Option ℕ) → option_map (λ n. 1 + n) o ≡ None → o ≡
 mapped_none None e = refl
 mapped_none (Some k) e = none_some (sym e)
 
-block_none : (bs : List ℕ) (j : ℕ) → block_length_lem bs ≡ None → block_length_lem (take j bs) ≡ None
+block_none : (bs : List ℕ) (j : ℕ) → length_of_block bs ≡ None → length_of_block (take j bs) ≡ None
 block_none [] zero e = refl
 block_none [] (suc j) e = refl
 block_none (b ∷ bs) zero e = refl
@@ -83,17 +83,17 @@ block_none (b ∷ bs) (suc j) e = by (cases_Bool (eqb b 42 && starts 47 bs)) (bl
     cut_test zero t = and_right (eqb b 42) false refl
     cut_test (suc i) t = ap (λ x. eqb b 42 && x) (starts_cut 47 bs (suc i) (omega arith)) ∙ t
 
-    by : ((eqb b 42 && starts 47 bs) ≡ true) ⊎ ((eqb b 42 && starts 47 bs) ≡ false) → (block_length_lem bs ≡ None → block_length_lem (take j bs) ≡ None) → block_length_lem (b ∷ take j bs) ≡ None
+    by : ((eqb b 42 && starts 47 bs) ≡ true) ⊎ ((eqb b 42 && starts 47 bs) ≡ false) → (length_of_block bs ≡ None → length_of_block (take j bs) ≡ None) → length_of_block (b ∷ take j bs) ≡ None
     by (inl t) ih = none_some (sym (sym (cond-true _ _ _ t) ∙ e))
-    by (inr t) ih = cond-false _ _ _ (cut_test j t) ∙ ap (option_map (λ n. 1 + n)) (ih (mapped_none (block_length_lem bs) (sym (cond-false _ _ _ t) ∙ e)))
+    by (inr t) ih = cond-false _ _ _ (cut_test j t) ∙ ap (option_map (λ n. 1 + n)) (ih (mapped_none (length_of_block bs) (sym (cond-false _ _ _ t) ∙ e)))
 
 -- a choice between two: the same test, and the same answer on the side that is taken
 pick : (j : ℕ) (t u : Bool) (f g f' g' : First) → u ≡ t → (reach f ≤ j → g ≡ f) → (reach f' ≤ j → g' ≡ f') → reach (cond t f f') ≤ j → cond u g g' ≡ cond t f f'
 pick j true u f g f' g' e h k r = cond-true u g g' e ∙ h r
 pick j false u f g f' g' e h k r = cond-false u g g' e ∙ k r
 
-block_same : (j : ℕ) (bs : List ℕ) → 1 ≤ j → reach (block (block_length_lem (drop 1 bs))) ≤ j → block (block_length_lem (drop 1 (take j bs))) ≡ block (block_length_lem (drop 1 bs))
-block_same j bs some r = by (block_length_lem (drop 1 bs)) refl
+block_same : (j : ℕ) (bs : List ℕ) → 1 ≤ j → reach (block (length_of_block (drop 1 bs))) ≤ j → block (length_of_block (drop 1 (take j bs))) ≡ block (length_of_block (drop 1 bs))
+block_same j bs some r = by (length_of_block (drop 1 bs)) refl
   where
     size : 1 + (j - 1) ≡ j
     size = omega arith
@@ -101,18 +101,18 @@ block_same j bs some r = by (block_length_lem (drop 1 bs)) refl
     cut_is : drop 1 (take j bs) ≡ take (j - 1) (drop 1 bs)
     cut_is = ap (λ k. drop 1 (take k bs)) (sym size) ∙ drop-take 1 (j - 1) bs
 
-    by : (o : Option ℕ) → block_length_lem (drop 1 bs) ≡ o → block (block_length_lem (drop 1 (take j bs))) ≡ block (block_length_lem (drop 1 bs))
-    by None e = ap block (ap block_length_lem cut_is ∙ block_none (drop 1 bs) (j - 1) e ∙ sym e)
+    by : (o : Option ℕ) → length_of_block (drop 1 bs) ≡ o → block (length_of_block (drop 1 (take j bs))) ≡ block (length_of_block (drop 1 bs))
+    by None e = ap block (ap length_of_block cut_is ∙ block_none (drop 1 bs) (j - 1) e ∙ sym e)
     by (Some m) e =
         let far : 2 + m ≤ j = subst (λ o. reach (block o) ≤ j) e r in
-        ap block (ap block_length_lem cut_is ∙ block_cut (drop 1 bs) (j - 1) m e (omega arith) ∙ sym e)
+        ap block (ap length_of_block cut_is ∙ block_cut (drop 1 bs) (j - 1) m e (omega arith) ∙ sym e)
 
 -- what ends before the cut is not changed by it
 pub first_cut : (b : ℕ) (bs : List ℕ) (j : ℕ) → 1 ≤ j → reach (first (b ∷ bs)) ≤ j → first (b ∷ take j bs) ≡ first (b ∷ bs)
 first_cut b bs j some =
     pick j (blank b) (blank b) (Gap 1) (Gap 1) _ _ refl (λ _. refl)
     (pick j (eqb b 37) (eqb b 37) (Gap (1 + front_length Line bs)) (Gap (1 + front_length Line (take j bs))) _ _ refl (λ r. ap (λ n. Gap (1 + n)) (front_cut Line bs j (omega arith)))
-    (pick j (eqb b 47 && starts 42 bs) (eqb b 47 && starts 42 (take j bs)) (block (block_length_lem (drop 1 bs))) (block (block_length_lem (drop 1 (take j bs)))) _ _ (ap (λ t. eqb b 47 && t) (starts_cut 42 bs j some)) (block_same j bs some)
+    (pick j (eqb b 47 && starts 42 bs) (eqb b 47 && starts 42 (take j bs)) (block (length_of_block (drop 1 bs))) (block (length_of_block (drop 1 (take j bs)))) _ _ (ap (λ t. eqb b 47 && t) (starts_cut 42 bs j some)) (block_same j bs some)
     (pick j (eqb b 33 && starts 61 bs) (eqb b 33 && starts 61 (take j bs)) (Piece Unequal 2) (Piece Unequal 2) _ _ (ap (λ t. eqb b 33 && t) (starts_cut 61 bs j some)) (λ _. refl)
     (pick j (lower b) (lower b) (Piece Word (1 + front_length Wordly bs)) (Piece Word (1 + front_length Wordly (take j bs))) _ _ refl (λ r. ap (λ n. Piece Word (1 + n)) (front_cut Wordly bs j (omega arith)))
     (pick j (upper b) (upper b) (Piece Variable (1 + front_length Wordly bs)) (Piece Variable (1 + front_length Wordly (take j bs))) (Piece (mark b) 1) (Piece (mark b) 1) refl (λ r. ap (λ n. Piece Variable (1 + n)) (front_cut Wordly bs j (omega arith)))

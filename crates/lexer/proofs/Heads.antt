@@ -4,7 +4,7 @@ use Rattle.std.specs.Option.{option_map}
 use Rattle.std.proofs.lemmas.List.{take_rest}
 use Rattle.std.proofs.lemmas.Bool.{eq-eqb, ne_eqb, cond-true, cond-false, and_left, and_right}
 use Rattle.std.proofs.lemmas.Bool.Decides.{nat_tests}
-use Rattle.lexer.specs.Tokens.{goes_over, front_length, block_length_lem, starts, block, first}
+use Rattle.lexer.specs.Tokens.{goes_over, front_length, length_of_block, starts, block, first}
 use Rattle.lexer.specs.declared.token.Kind.TheVariants.{Word, Variable}
 use Rattle.lexer.specs.declared.token.First.TheVariants.{Gap, Piece}
 use Rattle.lexer.specs.declared.token.Stretch.TheVariants.{Wordly, Line}
@@ -32,11 +32,11 @@ front_ends s xs h e = ap (front_length s) (head_tail xs h) ∙ cond-false _ _ _ 
 pub front_none : (s : Stretch) (xs : List ℕ) → length xs < 1 → front_length s xs ≡ 0
 front_none s xs h = ap (front_length s) (nothing xs h)
 
-pub block_none : (xs : List ℕ) → length xs < 1 → block_length_lem xs ≡ None
-block_none xs h = ap block_length_lem (nothing xs h)
+pub block_none : (xs : List ℕ) → length xs < 1 → length_of_block xs ≡ None
+block_none xs h = ap length_of_block (nothing xs h)
 
 -- the star and the slash stand here
-pub block_here : (xs : List ℕ) → 1 < length xs → get_or xs 0 0 ≡ 42 → get_or xs 1 0 ≡ 47 → block_length_lem xs ≡ Some 2
+pub block_here : (xs : List ℕ) → 1 < length xs → get_or xs 0 0 ≡ 42 → get_or xs 1 0 ≡ 47 → length_of_block xs ≡ Some 2
 block_here [] h p q = absurd (omega arith)
 block_here (x ∷ []) h p q = absurd (omega arith)
 block_here (x ∷ (y ∷ ys)) h p q = rw (eq-eqb x 42 p, eq-eqb y 47 q)
@@ -51,9 +51,9 @@ apart_false x (y ∷ ys) (inl h) = absurd (omega arith)
 apart_false x (y ∷ ys) (inr (inl n)) = and_left (eqb x 42) (eqb y 47) (ne_eqb x 42 n)
 apart_false x (y ∷ ys) (inr (inr n)) = and_right (eqb x 42) (eqb y 47) (ne_eqb y 47 n)
 
-pub block_more : (xs : List ℕ) → 0 < length xs → Apart xs → block_length_lem xs ≡ option_map (λ n. 1 + n) (block_length_lem (take (length xs - 1) (drop 1 xs)))
+pub block_more : (xs : List ℕ) → 0 < length xs → Apart xs → length_of_block xs ≡ option_map (λ n. 1 + n) (length_of_block (take (length xs - 1) (drop 1 xs)))
 block_more [] h a = absurd (omega arith)
-block_more (x ∷ xs) h a = cond-false _ _ _ (apart_false x xs a) ∙ ap (λ t. option_map (λ n. 1 + n) (block_length_lem t)) (sym (take_rest (x ∷ xs) 1))
+block_more (x ∷ xs) h a = cond-false _ _ _ (apart_false x xs a) ∙ ap (λ t. option_map (λ n. 1 + n) (length_of_block t)) (sym (take_rest (x ∷ xs) 1))
 
 pub shifted : (m : ℕ) (o : Option ℕ) → option_map (λ k. m + k) (option_map (λ n. 1 + n) o) ≡ option_map (λ k. m + 1 + k) o
 shifted m None = refl
@@ -64,7 +64,7 @@ pub first_comment : (xs : List ℕ) → 0 < length xs → get_or xs 0 0 ≡ 37 �
 first_comment [] h e = absurd (omega arith)
 first_comment (b ∷ bs) h e = rw (e, take_rest (b ∷ bs) 1)
 
-pub first_block : (xs : List ℕ) → 1 < length xs → get_or xs 0 0 ≡ 47 → get_or xs 1 0 ≡ 42 → first xs ≡ block (block_length_lem (take (length xs - 2) (drop 2 xs)))
+pub first_block : (xs : List ℕ) → 1 < length xs → get_or xs 0 0 ≡ 47 → get_or xs 1 0 ≡ 42 → first xs ≡ block (length_of_block (take (length xs - 2) (drop 2 xs)))
 first_block [] h p q = absurd (omega arith)
 first_block (b ∷ []) h p q = absurd (omega arith)
 first_block (b ∷ (c ∷ cs)) h p q = rw (p, q, take_rest (b ∷ (c ∷ cs)) 2)

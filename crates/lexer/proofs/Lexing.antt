@@ -5,7 +5,7 @@ use Rattle.std.specs.Option.{option_map}
 use Rattle.std.proofs.lemmas.List.{take_rest, length-take-le, drop-drop}
 use Rattle.std.proofs.lemmas.Bool.{cond_both, and_parts}
 use Rattle.signature.specs.Words.{lower, upper}
-use Rattle.lexer.specs.Tokens.{goes_over, front_length, block_length_lem, starts, blank, block, first, Lexeme, lexed, lex, tokens_from}
+use Rattle.lexer.specs.Tokens.{goes_over, front_length, length_of_block, starts, blank, block, first, Lexeme, lexed, lex, tokens_from}
 use Rattle.lexer.specs.Next.{end_of}
 use Rattle.lexer.specs.declared.token.Kind.{Kind}
 use Rattle.lexer.specs.declared.token.First.{First}
@@ -28,12 +28,12 @@ starts_some : (c : ℕ) (bs : List ℕ) → starts c bs ≡ true → 1 ≤ lengt
 starts_some c [] e = absurd (false≢true e)
 starts_some c (b ∷ bs) e = omega arith
 
-block_within : (bs : List ℕ) → UpTo (length bs) (block_length_lem bs)
+block_within : (bs : List ℕ) → UpTo (length bs) (length_of_block bs)
 block_within [] = tt
 block_within (b ∷ bs) =
     cond_both (eqb b 42 && starts 47 bs) _ _ (UpTo (length (b ∷ bs)))
     (λ e. omega (arith, starts_some 47 bs (and_parts (eqb b 42) (starts 47 bs) e).1))
-    (λ _. up_more (length bs) (block_length_lem bs) (block_within bs))
+    (λ _. up_more (length bs) (length_of_block bs) (block_within bs))
 
 -- some bytes, and no more than there are
 abbrev pub Moves : ℕ → First → Type 0
@@ -55,10 +55,10 @@ first_moves b bs =
     cond_both (lower b) _ _ P (λ _. (omega arith, omega (arith, front_within Wordly bs))) (λ _.
     cond_both (upper b) _ _ P (λ _. (omega arith, omega (arith, front_within Wordly bs))) (λ _. (omega arith, omega arith)))))))
   where
-    in_block : 1 ≤ length bs → Moves (length (b ∷ bs)) (block (block_length_lem (drop 1 bs)))
+    in_block : 1 ≤ length bs → Moves (length (b ∷ bs)) (block (length_of_block (drop 1 bs)))
     in_block h =
         let size : length (b ∷ bs) - 2 ≡ length (drop 1 bs) = omega (arith, length-drop 1 bs) in
-        block_moves (length (b ∷ bs)) (block_length_lem (drop 1 bs)) (omega arith) (rw size (block_within (drop 1 bs)))
+        block_moves (length (b ∷ bs)) (length_of_block (drop 1 bs)) (omega arith) (rw size (block_within (drop 1 bs)))
 
 module _ (k j : ℕ) (bs : List ℕ) (n : ℕ) (same : (cs : List ℕ) (p : ℕ) → length cs < k → length cs < j → lex k cs p ≡ lex j cs p) where
   lexed_same : (f : First) → Moves (length bs) f → length bs ≤ k → length bs ≤ j → lexed (lex k) bs n f ≡ lexed (lex j) bs n f

@@ -28,9 +28,9 @@ front_length s [] = 0
 front_length s (b ∷ bs) = cond (goes_over s b) (1 + front_length s bs) 0
 
 -- how many bytes there are up to the first star with a slash behind it, both counted
-abbrev pub block_length_lem : List ℕ → Option ℕ
-block_length_lem [] = None
-block_length_lem (b ∷ bs) = cond (b == 42 && starts 47 bs) (Some 2) (option_map (λ n. 1 + n) (block_length_lem bs))
+abbrev pub length_of_block : List ℕ → Option ℕ
+length_of_block [] = None
+length_of_block (b ∷ bs) = cond (b == 42 && starts 47 bs) (Some 2) (option_map (λ n. 1 + n) (length_of_block bs))
 
 -- the token that a single byte is; one that starts no token is Stray, which fits nowhere
 abbrev pub mark : ℕ → Kind
@@ -47,7 +47,7 @@ first [] = Nothing
 first (b ∷ bs) =
     cond (blank b) (Gap 1)
     (cond (b == 37) (Gap (1 + front_length Line bs))
-    (cond (b == 47 && starts 42 bs) (block (block_length_lem (drop 1 bs)))
+    (cond (b == 47 && starts 42 bs) (block (length_of_block (drop 1 bs)))
     (cond (b == 33 && starts 61 bs) (Piece Unequal 2)
     (cond (lower b) (Piece Word (1 + front_length Wordly bs))
     (cond (upper b) (Piece Variable (1 + front_length Wordly bs))

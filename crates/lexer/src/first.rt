@@ -1,12 +1,12 @@
 // What stands first in a text.
 ghost use Rattle.std.specs.Prelude.{◌≡◌, ◌+◌, ◌<◌, ◌≤◌, length, IfSome};
-ghost use Rattle.lexer.specs.Tokens.{goes_over, front_length, block_length_lem, mark, first as first_of};
+ghost use Rattle.lexer.specs.Tokens.{goes_over, front_length, length_of_block, mark, first as first_of};
 
 use crate::token::{First, Kind, Stretch};
 
 // How many bytes a block comment has behind its opening, or None where it is never closed.
 fn block_length(text: &[u8]) -> Option<usize>
-    ensures is { result ≡ block_length_lem text.now }
+    ensures is { result ≡ length_of_block text.now }
     ensures within { IfSome result (λ n. n ≤ length text.now) }
 {
     let mut n = 0;

@@ -6,7 +6,7 @@ use Rattle.std.proofs.lemmas.Bool.{cond-true, cond-false, and_parts, and_from, l
 use Rattle.std.proofs.lemmas.Bool.Decides.{nat_tests}
 use Rattle.terms.specs.Term as terms
 use Rattle.terms.specs.Sig.{Sig, Over, AllOver}
-use Rattle.signature.specs.Words.{lower, wordly, all_wordly_lem, is_word}
+use Rattle.signature.specs.Words.{lower, wordly, each_wordly, is_word}
 use Rattle.signature.specs.Written.{written, written_args, written_more}
 use Rattle.lexer.specs.Tokens.{Lexeme, first, front_length, tokens_from}
 use Rattle.lexer.specs.declared.token.Kind.{Kind}
@@ -23,11 +23,11 @@ abbrev pub Stops : List ℕ → Type 0
 Stops [] = Unit {0}
 Stops (b ∷ bs) = wordly b ≡ false
 
-stretch : (bs rest : List ℕ) → all_wordly_lem bs ≡ true → Stops rest → front_length Wordly (bs ++ rest) ≡ length bs
+stretch : (bs rest : List ℕ) → each_wordly bs ≡ true → Stops rest → front_length Wordly (bs ++ rest) ≡ length bs
 stretch [] [] h e = refl
 stretch [] (b ∷ rest) h e = cond-false _ _ _ e
 stretch (b ∷ bs) rest h e =
-    let both = and_parts (wordly b) (all_wordly_lem bs) h in
+    let both = and_parts (wordly b) (each_wordly bs) h in
     cond-true _ _ _ both.0 ∙ ap (λ k. 1 + k) (stretch bs rest both.1 e) ∙ omega arith
 
 -- one token, and what is behind it
@@ -41,22 +41,22 @@ word_first [] rest h e = absurd_word h
     absurd_word : {A : Type 0} → false ≡ true → A
     absurd_word e = let z : ◌≡◌ {A = ℕ} 0 1 = cc in absurd (omega arith)
 word_first (b ∷ bs) rest h e =
-    let both = and_parts (lower b) (all_wordly_lem bs) h in
+    let both = and_parts (lower b) (each_wordly bs) h in
     let range = and_parts (leb 97 b) (leb b 122) both.0 in
     first_word (b ∷ (bs ++ rest)) (omega arith) (leb-true 97 b range.0) (leb-true b 122 range.1) ∙ ap (λ xs. Piece Word (1 + front_length Wordly xs)) (take_rest (b ∷ (bs ++ rest)) 1) ∙ ap (λ k. Piece Word (1 + k)) (stretch bs rest both.1 e) ∙ ap (λ k. Piece Word k) (omega arith)
 
 digit_wordly : (n : ℕ) → n < 10 → wordly (48 + n) ≡ true
 digit_wordly n h = grind (arith, nat_tests)
 
-decimal_wordly : (x : ℕ) → x < 32 → all_wordly_lem (decimal x) ≡ true
+decimal_wordly : (x : ℕ) → x < 32 → each_wordly (decimal x) ≡ true
 decimal_wordly x h = by (cases_lt x 10)
   where
-    by : (x < 10) ⊎ (10 ≤ x) → all_wordly_lem (decimal x) ≡ true
-    by (inl k) = ap all_wordly_lem (decimal_digit x k) ∙ and_from (wordly (48 + x)) true (digit_wordly x k) refl
+    by : (x < 10) ⊎ (10 ≤ x) → each_wordly (decimal x) ≡ true
+    by (inl k) = ap each_wordly (decimal_digit x k) ∙ and_from (wordly (48 + x)) true (digit_wordly x k) refl
     by (inr k) =
         let high : x / 10 < 10 = omega arith in
         let low : x % 10 < 10 = omega arith in
-        ap all_wordly_lem (decimal_step x k (omega arith) ∙ ap (λ ds. ds ++ ((48 + x % 10) ∷ [])) (decimal_digit (x / 10) high)) ∙ and_from (wordly (48 + x / 10)) _ (digit_wordly (x / 10) high) (and_from (wordly (48 + x % 10)) true (digit_wordly (x % 10) low) refl)
+        ap each_wordly (decimal_step x k (omega arith) ∙ ap (λ ds. ds ++ ((48 + x % 10) ∷ [])) (decimal_digit (x / 10) high)) ∙ and_from (wordly (48 + x / 10)) _ (digit_wordly (x / 10) high) (and_from (wordly (48 + x % 10)) true (digit_wordly (x % 10) low) refl)
 
 variable_first : (x : ℕ) (rest : List ℕ) → x < 32 → Stops rest → first (variable_name x ++ rest) ≡ Piece Variable (length (variable_name x))
 variable_first x rest h e =

@@ -1,9 +1,9 @@
--- Bytes in front of those that the rest of a text with escapes stands for.
-use Rattle.std.proofs.Common.{◌≡◌, ℕ, ◌+◌, ◌-◌, ◌*◌, ◌/◌, ◌%◌, ◌<◌, List, [], ◌∷◌, ◌++◌, length, take, drop, Some, None, Option, refl, ap, ◌∙◌, arith}
+-- The first byte that a text with escapes stands for, and bytes in front of the rest.
+use Rattle.std.proofs.Common.{◌≡◌, ℕ, ◌+◌, ◌-◌, ◌*◌, ◌/◌, ◌%◌, ◌<◌, List, [], ◌∷◌, ◌++◌, length, get_or, take, drop, Some, None, Option, refl, ap, ◌∙◌, arith}
 use Rattle.std.proofs.lemmas.Bool.{ne_eqb}
 use Rattle.std.proofs.lemmas.List.{take_rest}
 use Rattle.std.proofs.lemmas.Bool.Decides.{nat_tests}
-use Rattle.script.specs.Escapes.{hex_digit, hex_letter, onto, unescaped, CodesStand, PlainStand}
+use Rattle.script.specs.Escapes.{hex_digit, hex_letter, pair, onto, unescaped, CodesStand, PlainStand}
 
 -- bytes in front of those that the rest stands for
 abbrev pub before : List ℕ → Option (List ℕ) → Option (List ℕ)
@@ -26,6 +26,13 @@ before_all (x ∷ xs) = ap (onto (Some x)) (before_all xs)
 pub before_more : (text rest bytes pushed : List ℕ) (byte len : ℕ) → unescaped text ≡ before bytes (unescaped rest) → unescaped rest ≡ onto (Some byte) (unescaped (drop len rest)) → pushed ≡ bytes ++ byte ∷ [] → unescaped text ≡ before pushed (unescaped (take (length rest - len) (drop len rest)))
 before_more text rest bytes pushed byte len e f p =
     rw (take_rest rest len, p, before_push bytes byte (unescaped (drop len rest))) (e ∙ ap (before bytes) f)
+
+pub code_first : (t : List ℕ) → 3 < length t → get_or t 0 0 ≡ 92 → get_or t 1 0 ≡ 120 → unescaped t ≡ onto (pair (hex_digit (get_or t 2 0)) (hex_digit (get_or t 3 0))) (unescaped (drop 4 t))
+code_first [] h e f = absurd (omega arith)
+code_first (b ∷ []) h e f = absurd (omega arith)
+code_first (b ∷ c ∷ []) h e f = absurd (omega arith)
+code_first (b ∷ c ∷ d ∷ []) h e f = absurd (omega arith)
+code_first (b ∷ c ∷ d ∷ g ∷ t) h e f = rw (e, f)
 
 pub plain_stand : PlainStand
 plain_stand [] h = refl

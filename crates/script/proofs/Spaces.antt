@@ -9,7 +9,7 @@ use Rattle.script.specs.Says.{word_of, Leads, Fields, Form}
 use Rattle.script.specs.declared.call.Order.{Order}
 use Rattle.script.specs.declared.call.Order.TheVariants.{Kbo, Lpo}
 use Rattle.script.specs.declared.call.Word.{Word}
-use Rattle.script.specs.declared.call.Word.TheVariants.{Signature as signature-word, Open as open_word, Add as add-word, Remove as remove-word, Audit as audit-word, Release as release-word, Simplify as simplify-word, Judge as judge-word, Read as read_word}
+use Rattle.script.specs.declared.call.Word.TheVariants.{Signature as signature_word, Open as open_word, Add as add_word, Remove as remove_word, Audit as audit_word, Release as release_word, Simplify as simplify_word, Judge as judge_word, Read as read_word}
 use Rattle.script.specs.declared.call.Call.{Call}
 use Rattle.script.specs.declared.call.Call.TheVariants.{Signature, Open, Add, Remove, Audit, Release, Simplify, Judge, Read}
 
@@ -35,30 +35,30 @@ order_free Kbo = free 32 (codes "kbo") refl
 order_free Lpo = free 32 (codes "lpo") refl
 
 pub word_free : (w : Word) → Without 32 (word w)
-word_free signature-word = free 32 (codes "signature") refl
+word_free signature_word = free 32 (codes "signature") refl
 word_free open_word = free 32 (codes "open") refl
-word_free add-word = free 32 (codes "add") refl
-word_free remove-word = free 32 (codes "remove") refl
-word_free audit-word = free 32 (codes "audit") refl
-word_free release-word = free 32 (codes "release") refl
-word_free simplify-word = free 32 (codes "simplify") refl
-word_free judge-word = free 32 (codes "judge") refl
+word_free add_word = free 32 (codes "add") refl
+word_free remove_word = free 32 (codes "remove") refl
+word_free audit_word = free 32 (codes "audit") refl
+word_free release_word = free 32 (codes "release") refl
+word_free simplify_word = free 32 (codes "simplify") refl
+word_free judge_word = free 32 (codes "judge") refl
 word_free read_word = free 32 (codes "read") refl
 
 -- the word that is spelled so, if any is
 abbrev named : List ℕ → Word
 named t =
-    cond (bytes_eq t (codes "signature")) signature-word (cond (bytes_eq t (codes "open")) open_word (cond (bytes_eq t (codes "add")) add-word (cond (bytes_eq t (codes "remove")) remove-word (cond (bytes_eq t (codes "audit")) audit-word (cond (bytes_eq t (codes "release")) release-word (cond (bytes_eq t (codes "simplify")) simplify-word (cond (bytes_eq t (codes "judge")) judge-word read_word)))))))
+    cond (bytes_eq t (codes "signature")) signature_word (cond (bytes_eq t (codes "open")) open_word (cond (bytes_eq t (codes "add")) add_word (cond (bytes_eq t (codes "remove")) remove_word (cond (bytes_eq t (codes "audit")) audit_word (cond (bytes_eq t (codes "release")) release_word (cond (bytes_eq t (codes "simplify")) simplify_word (cond (bytes_eq t (codes "judge")) judge_word read_word)))))))
 
 named_back : (w : Word) → named (word w) ≡ w
-named_back signature-word = refl
+named_back signature_word = refl
 named_back open_word = refl
-named_back add-word = refl
-named_back remove-word = refl
-named_back audit-word = refl
-named_back release-word = refl
-named_back simplify-word = refl
-named_back judge-word = refl
+named_back add_word = refl
+named_back remove_word = refl
+named_back audit_word = refl
+named_back release_word = refl
+named_back simplify_word = refl
+named_back judge_word = refl
 named_back read_word = refl
 
 pub same_word : (v w : Word) → word v ≡ word w → v ≡ w

@@ -7,19 +7,19 @@ use Rattle.script.specs.declared.call.Order.{Order}
 use Rattle.script.specs.declared.call.Index.{Index}
 use Rattle.script.specs.declared.call.Limits.{Limits}
 use Rattle.script.specs.declared.call.Word.{Word}
-use Rattle.script.specs.declared.call.Word.TheVariants.{Signature as signature-word, Open as open_word, Add as add-word, Remove as remove-word, Audit as audit-word, Release as release-word, Simplify as simplify-word, Judge as judge-word, Read as read_word}
+use Rattle.script.specs.declared.call.Word.TheVariants.{Signature as signature_word, Open as open_word, Add as add_word, Remove as remove_word, Audit as audit_word, Release as release_word, Simplify as simplify_word, Judge as judge_word, Read as read_word}
 use Rattle.script.specs.declared.call.Call.{Call}
 use Rattle.script.specs.declared.call.Call.TheVariants.{Signature, Open, Add, Remove, Audit, Release, Simplify, Judge, Read}
 
 abbrev pub word_of : Call → Word
-word_of (Signature text) = signature-word
+word_of (Signature text) = signature_word
 word_of (Open number order index) = open_word
-word_of (Add number formula) = add-word
-word_of (Remove number) = remove-word
-word_of (Audit limits) = audit-word
-word_of Release = release-word
-word_of (Simplify goal) = simplify-word
-word_of (Judge goal) = judge-word
+word_of (Add number formula) = add_word
+word_of (Remove number) = remove_word
+word_of (Audit limits) = audit_word
+word_of Release = release_word
+word_of (Simplify goal) = simplify_word
+word_of (Judge goal) = judge_word
 word_of (Read text) = read_word
 
 -- a number, a space, and more
@@ -72,14 +72,14 @@ Says c line = ((c ≡ Release) × (line ≡ codes "release")) ⊎ ((rest : List 
 
 -- what can stand after the word and a space
 abbrev pub Form : Word → List ℕ → Type 0
-Form signature-word rest = (bytes : List ℕ) × Quoted rest bytes
+Form signature_word rest = (bytes : List ℕ) × Quoted rest bytes
 Form open_word rest = (n : ℕ) × ((o : Order) × ((i : Index) × NumberWords n (order_word o) (index_word i) rest))
-Form add-word rest = (n : ℕ) × ((bytes : List ℕ) × NumberText n bytes rest)
-Form remove-word rest = (n : ℕ) × Only n rest
-Form audit-word rest = (l : Limits) × TwoNumbers l rest
-Form release-word rest = ⊥
-Form simplify-word rest = (l : Limits) × ((bytes : List ℕ) × NumbersText l bytes rest)
-Form judge-word rest = (l : Limits) × ((bytes : List ℕ) × NumbersText l bytes rest)
+Form add_word rest = (n : ℕ) × ((bytes : List ℕ) × NumberText n bytes rest)
+Form remove_word rest = (n : ℕ) × Only n rest
+Form audit_word rest = (l : Limits) × TwoNumbers l rest
+Form release_word rest = ⊥
+Form simplify_word rest = (l : Limits) × ((bytes : List ℕ) × NumbersText l bytes rest)
+Form judge_word rest = (l : Limits) × ((bytes : List ℕ) × NumbersText l bytes rest)
 Form read_word rest = (bytes : List ℕ) × Quoted rest bytes
 
 -- the text up to its first line feed and after it, or the whole text, if it has none

@@ -5,7 +5,7 @@ use Rattle.script.specs.declared.call.Word.TheVariants.{Signature, Open, Add, Re
 use Rattle.script.specs.declared.call.Order.{Order}
 use Rattle.script.specs.declared.call.Order.TheVariants.{Kbo, Lpo}
 use Rattle.script.specs.declared.call.Index.{Index}
-use Rattle.script.specs.declared.call.Index.TheVariants.{List as list-index, Tree as tree-index}
+use Rattle.script.specs.declared.call.Index.TheVariants.{List as list_index, Tree as tree_index}
 
 abbrev pub word : Word → List ℕ
 word Signature = codes "signature"
@@ -23,5 +23,5 @@ order_word Kbo = codes "kbo"
 order_word Lpo = codes "lpo"
 
 abbrev pub index_word : Index → List ℕ
-index_word list-index = codes "list"
-index_word tree-index = codes "tree"
+index_word list_index = codes "list"
+index_word tree_index = codes "tree"

@@ -56,9 +56,9 @@ well : (y : Symbol) → WellFormed (line_of y)
 well y = record {
   word = y.name.word;
   short = omega (arith, length-take y.name.len y.name.bytes, y.name.short);
-  arity_most_lem = y.arity_most;
-  weight_least_lem = y.weight_least;
-  weight_most_lem = y.weight_most;
+  arity_within = y.arity_most;
+  weight_some = y.weight_least;
+  weight_within = y.weight_most;
 }
 
 wells : (ss : List Symbol) → AllByRecursion WellFormed (map line_of ss)

@@ -18,11 +18,11 @@ each P f d past here [] at = past
 each P f d past here (y ∷ ys) zero = here y
 each P f d past here (y ∷ ys) (suc at) = each P f d past here ys at
 
-pub arity_most_lem : (s : Signature) (f : ℕ) → (sig_of s).arity f ≤ 4
-arity_most_lem s f = each (λ a. a ≤ 4) (λ y. y.arity) 0 (omega arith) (λ y. y.arity_most) (symbols_of s) f
+pub arity_within : (s : Signature) (f : ℕ) → (sig_of s).arity f ≤ 4
+arity_within s f = each (λ a. a ≤ 4) (λ y. y.arity) 0 (omega arith) (λ y. y.arity_most) (symbols_of s) f
 
-pub weight_least_lem : (s : Signature) (f : ℕ) → 1 ≤ (sig_of s).weight f
-weight_least_lem s f = each (λ w. 1 ≤ w) (λ y. y.weight) 1 (omega arith) (λ y. y.weight_least) (symbols_of s) f
+pub weight_some : (s : Signature) (f : ℕ) → 1 ≤ (sig_of s).weight f
+weight_some s f = each (λ w. 1 ≤ w) (λ y. y.weight) 1 (omega arith) (λ y. y.weight_least) (symbols_of s) f
 
-pub weight_most_lem : (s : Signature) (f : ℕ) → (sig_of s).weight f ≤ 100
-weight_most_lem s f = each (λ w. w ≤ 100) (λ y. y.weight) 1 (omega arith) (λ y. y.weight_most) (symbols_of s) f
+pub weight_within : (s : Signature) (f : ℕ) → (sig_of s).weight f ≤ 100
+weight_within s f = each (λ w. w ≤ 100) (λ y. y.weight) 1 (omega arith) (λ y. y.weight_most) (symbols_of s) f

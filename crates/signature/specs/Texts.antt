@@ -19,9 +19,9 @@ text_of l = l.name ++ (9 ∷ (decimal l.arity ++ (9 ∷ (decimal l.weight ++ (10
 pub record WellFormed (l : Line) : Type 0 where
   pub word : is_word l.name ≡ true
   pub short : length l.name ≤ 16
-  pub arity_most_lem : l.arity ≤ 4
-  pub weight_least_lem : 1 ≤ l.weight
-  pub weight_most_lem : l.weight ≤ 100
+  pub arity_within : l.arity ≤ 4
+  pub weight_some : 1 ≤ l.weight
+  pub weight_within : l.weight ≤ 100
 
 -- good lines: each is well formed, and no two names are equal
 pub record Sound (ls : List Line) : Type 0 where

@@ -17,16 +17,16 @@ digit b = nat_le 48 b && nat_le b 57
 abbrev pub wordly : ℕ → Bool
 wordly b = lower b || upper b || digit b || b == 95
 
-abbrev pub all_wordly_lem : List ℕ → Bool
-all_wordly_lem [] = true
-all_wordly_lem (b ∷ bs) = wordly b && all_wordly_lem bs
+abbrev pub each_wordly : List ℕ → Bool
+each_wordly [] = true
+each_wordly (b ∷ bs) = wordly b && each_wordly bs
 
 -- a lower-case letter, then letters, digits and underscores
 abbrev pub is_word : List ℕ → Bool
 is_word [] = false
-is_word (b ∷ bs) = lower b && all_wordly_lem bs
+is_word (b ∷ bs) = lower b && each_wordly bs
 
 -- the same with an upper-case letter first
 abbrev pub is_variable : List ℕ → Bool
 is_variable [] = false
-is_variable (b ∷ bs) = upper b && all_wordly_lem bs
+is_variable (b ∷ bs) = upper b && each_wordly bs

@@ -1,6 +1,6 @@
 // Words: a lower-case letter, then letters, digits and underscores.
 ghost use Rattle.std.specs.Prelude.{◌≡◌};
-ghost use Rattle.signature.specs.Words.{wordly, is_word, all_wordly_lem};
+ghost use Rattle.signature.specs.Words.{wordly, is_word, each_wordly};
 
 // Whether the byte may follow the first letter of a word.
 pub fn is_wordly(byte: u8) -> bool
@@ -19,7 +19,7 @@ pub fn is_word(text: &[u8]) -> bool
 }
 
 fn all_wordly(text: &[u8]) -> bool
-    ensures { result ≡ all_wordly_lem text.now }
+    ensures { result ≡ each_wordly text.now }
 {
     for byte in text {
         if !is_wordly(*byte) {

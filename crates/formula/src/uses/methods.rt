@@ -1,7 +1,7 @@
 ghost use Rattle.std.specs.Prelude.{◌≡◌, ◌+◌, ◌<◌, ◌≤◌, [], ◌∷◌, length, drop, None};
 ghost use Rattle.lexer.specs.Tokens.{tokens_from};
 ghost use Rattle.lexer.specs.Next.{lexeme_of};
-ghost use Rattle.formula.specs.Scans.{note as note-of, bumped as one_more, arity_code, at_comma, at_close, noted_at_close, stacked, noted, scan};
+ghost use Rattle.formula.specs.Scans.{note as note_of, bumped as one_more, arity_code, at_comma, at_close, noted_at_close, stacked, noted, scan};
 ghost use Rattle.formula.specs.Stacks.{stack_of};
 
 use super::{DEEPEST, Uses};
@@ -50,7 +50,7 @@ impl Uses {
 
     fn note(&mut self, right: bool, place: usize)
         ensures same { (self.new.frames ≡ self.old.frames) × (self.new.depth ≡ self.old.depth) }
-        ensures noted { self.new.lowest ≡ note-of right self.old.lowest place }
+        ensures noted { self.new.lowest ≡ note_of right self.old.lowest place }
     {
         if !right {
             self.lowest = match self.lowest {

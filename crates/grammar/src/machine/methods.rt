@@ -2,7 +2,7 @@ ghost use Rattle.std.specs.Prelude.{◌≡◌, ◌+◌, ◌^◌, ◌<◌, ◌≤
 ghost use Rattle.lexer.specs.Next.{lexeme_of};
 ghost use Rattle.grammar.specs.Kinds.{same_kind, same_bytes};
 ghost use Rattle.grammar.specs.Outcomes.{Walked};
-ghost use Rattle.grammar.specs.Machine.{expect as expected, spot, term_start, inside as inside_of, outside as Outside-of, behind as behind-of, next as next_of, is_done, depth_of};
+ghost use Rattle.grammar.specs.Machine.{expect as expected, spot, term_start, inside as inside_of, outside as outside_of, behind as behind_of, next as next_of, is_done, depth_of};
 
 use super::{Spot, State};
 use crate::part::Fault;
@@ -69,7 +69,7 @@ impl Spot {
     }
 
     fn outside(self, kind: Kind) -> Option<State>
-        ensures { result ≡ Outside-of self kind }
+        ensures { result ≡ outside_of self kind }
     {
         let wrapped = self.wrapped;
         match kind {
@@ -88,7 +88,7 @@ impl Spot {
     }
 
     fn behind(self, kind: Kind) -> Option<State>
-        ensures { result ≡ behind-of self kind }
+        ensures { result ≡ behind_of self kind }
     {
         if self.depth > 0 {
             self.inside(kind)

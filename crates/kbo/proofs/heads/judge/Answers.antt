@@ -5,7 +5,7 @@ use Rattle.terms.specs.Preorder.{preorder}
 use Rattle.terms.specs.declared.pattern.Node.{Node}
 use Rattle.terms.specs.declared.pattern.Node.TheVariants.{Var}
 use Rattle.signature.specs.Signatures.{sig_of}
-use Rattle.signature.proofs.Symbols.{weight_least_lem}
+use Rattle.signature.proofs.Symbols.{weight_some}
 use Rattle.rewriting.specs.Count.{weigh}
 use Rattle.rewriting.specs.Kbo.{Kbo}
 use Rattle.rewriting.proofs.Kbo.{kbo_covers, kbo_weigh}
@@ -22,7 +22,7 @@ pub returns-then-not-covers : goal.returns-then-not-covers
 returns-then-not-covers c u v eu ev h =
     let g = c.args.signature.now in
     let d = covers_preorder u v _ _ eu ev _ c.covers.ensures in
-    both_ways _ c.if-not-covers.true (d.1 (kbo_covers (sig_of g).weight (weight_least_lem g) h))
+    both_ways _ c.if-not-covers.true (d.1 (kbo_covers (sig_of g).weight (weight_some g) h))
 
 -- the weights of the two terms
 heavy : (c : After-weight-lower) (u : Term) → c.args.s.now ≡ preorder u → c.weight-upper.result ≡ weigh (sig_of c.args.signature.now).weight u
@@ -41,7 +41,7 @@ pub returns-then-upper-lower : goal.returns-then-upper-lower
 returns-then-upper-lower c u v eu ev h =
     let g = c.args.signature.now in
     let o = (goal.at.returns-then-upper-lower c).After-weight-lower in
-    omega (arith, heavy o u eu, light o v ev, kbo_weigh (sig_of g).weight (weight_least_lem g) h, c.if-upper-lower.true)
+    omega (arith, heavy o u eu, light o v ev, kbo_weigh (sig_of g).weight (weight_some g) h, c.if-upper-lower.true)
 
 pub returns : goal.returns
 returns c u v eu ev =

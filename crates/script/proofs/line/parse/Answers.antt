@@ -6,7 +6,7 @@ use Rattle.script.specs.Spellings.{word}
 use Rattle.script.specs.Says.{Says, Fields, Form, word_of}
 use Rattle.script.specs.declared.call.Call.{Call}
 use Rattle.script.specs.declared.call.Word.{Word}
-use Rattle.script.specs.declared.call.Word.TheVariants.{Release as release-word}
+use Rattle.script.specs.declared.call.Word.TheVariants.{Release as release_word}
 use Rattle.script.proofs.Spaces.{word_free, same_word, form}
 use Rattle.script.proofs.line.parse.Goals as goal
 
@@ -14,7 +14,7 @@ use Rattle.script.proofs.line.parse.Goals as goal
 first_word : {line field after : List ℕ} (c : Call) → Cut 32 line field after → Says c line → (field ≡ word (word_of c)) × Form (word_of c) after
 first_word {line} {field} {after} c k (inl s) =
     let e : field ++ (32 ∷ after) ≡ codes "release" = sym k.whole ∙ s.1 in
-    absurd (uncut 32 field after (subst (Without 32) (sym e) (word_free release-word)))
+    absurd (uncut 32 field after (subst (Without 32) (sym e) (word_free release_word)))
 first_word {line} {field} {after} c k (inr s) =
     let p = cut_is (word (word_of c)) s.0 k (word_free (word_of c)) s.1 in
     (p.0, form c after (subst (Fields c) (sym p.1) s.2))

@@ -4,5 +4,5 @@ use Rattle.signature.proofs.symbol.Symbol.new.Goals as goal
 
 pub returns-then-weight-eq0 : goal.returns-then-weight-eq0
 returns-then-weight-eq0 c l ok f =
-    let w = decimal_injective l.weight c.in_ok-weight.weight (omega (arith, ok.weight_most_lem)) (omega (arith, c.if-weight-eq0.true)) (sym f.weight_is ∙ c.in_ok-weight.ensures.1) in
-    omega (arith, w, ok.weight_least_lem, c.if-weight-eq0.true)
+    let w = decimal_injective l.weight c.in_ok-weight.weight (omega (arith, ok.weight_within)) (omega (arith, c.if-weight-eq0.true)) (sym f.weight_is ∙ c.in_ok-weight.ensures.1) in
+    omega (arith, w, ok.weight_some, c.if-weight-eq0.true)
