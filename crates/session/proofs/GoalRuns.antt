@@ -1,5 +1,5 @@
 -- A goal's run as the answer to simplifying.
-use Rattle.std.proofs.Common.{◌≡◌, ℕ, List, Ok, Err, Result, sym, refl, ap, subst, inl, inr}
+use Rattle.std.proofs.Common.{◌≡◌, ℕ, List, Ok, Err, Result, sym, refl, subst, inl, inr}
 use Rattle.refusal.specs.declared.Refusal.{Refusal}
 use Rattle.terms.specs.Term.{Term}
 use Rattle.terms.specs.Sig.{Over}
@@ -15,8 +15,7 @@ use Rattle.trace.specs.declared.Step.{Step}
 use Rattle.run.specs.declared.answer.Answer.{Answer}
 use Rattle.run.specs.Goals.{GoalRun}
 use Rattle.file.proofs.Filing.{filed}
-use Rattle.session.specs.Kept.{Kept}
-use Rattle.session.specs.Simplifies.{Goal, Posed, Refused, Untouched, TooLarge, Simplified, Simplifies}
+use Rattle.session.specs.Simplifies.{Goal, Posed, Refused, Simplifies}
 use Rattle.session.specs.declared.Session.{Session}
 
 -- what was read is over the signature

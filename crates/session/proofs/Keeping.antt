@@ -1,5 +1,5 @@
 -- The file's equations stay over the signature, and turned.
-use Rattle.std.proofs.Common.{◌≡◌, ℕ, true, false, cond, eqb, List, Some, None, Ok, Option, sym, ◌∙◌, subst, inl, inr, arith}
+use Rattle.std.proofs.Common.{◌≡◌, ℕ, true, false, cond, eqb, List, Some, None, Ok, sym, ◌∙◌, subst, inl, inr, arith}
 use Rattle.terms.specs.Term.{Term}
 use Rattle.terms.specs.Sig.{Over}
 use Rattle.terms.specs.Patterns.{term_of}

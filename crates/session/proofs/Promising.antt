@@ -1,5 +1,5 @@
 -- From what a call did to what it promises.
-use Rattle.std.proofs.Common.{◌≡◌, ℕ, true, false, List, length, is_some, Some, None, Ok, Err, Option, Result, sym, refl, subst, inl, inr, arith}
+use Rattle.std.proofs.Common.{◌≡◌, ℕ, true, List, length, is_some, Some, None, Ok, Err, Option, Result, sym, refl, subst, inl, inr, arith}
 use Rattle.refusal.specs.declared.Refusal.{Refusal}
 use Rattle.terms.specs.Term.{Term}
 use Rattle.signature.specs.declared.signature.Signature.{Signature}

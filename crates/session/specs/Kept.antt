@@ -1,5 +1,5 @@
 -- What holds of a session after every call.
-use Rattle.std.specs.Prelude.{◌≡◌, ℕ, Some, None}
+use Rattle.std.specs.Prelude.{◌≡◌, ℕ, Some}
 use Rattle.terms.specs.Term.{Term}
 use Rattle.terms.specs.Sig.{Over}
 use Rattle.terms.specs.Patterns.{term_of}
