@@ -6,7 +6,7 @@ use Rattle.signature.specs.declared.signature.Signature.{Signature}
 use Rattle.formula.specs.declared.equation.Equation.{Equation}
 use Rattle.offers.specs.declared.Patterns.{Patterns}
 use Rattle.offers.specs.Numbered.{Kept, Added}
-use Rattle.offers.specs.Rules.{Higher, Gives, nothing, no_rule, taken, no_room, Held, left_out, Step}
+use Rattle.offers.specs.Rules.{Higher, nothing, no_rule, taken, no_room, Held, left_out, Step}
 
 pub added : (s : Signature) (e : Equation) (p : Pattern) (before after : Patterns) (r : Bool) → Higher s e (Some p) → ((ps : List Pattern) → Kept before ps → Added ps p after r) → Step s e before after r
 added s e p before after r higher add es n h = go r (add h.patterns h.kept)

@@ -1,5 +1,5 @@
 -- Patterns numbered from 1 on.
-use Rattle.std.specs.Prelude.{◌≡◌, ℕ, ◌+◌, ◌<◌, ◌≤◌, Bool, true, false, List, [], ◌∷◌, length, None}
+use Rattle.std.specs.Prelude.{◌≡◌, ◌+◌, ◌<◌, ◌≤◌, Bool, true, false, List, [], ◌∷◌, length, None}
 use Rattle.terms.specs.declared.pattern.Pattern.{Pattern}
 use Rattle.index.specs.Maps.{Map, Same, put}
 use Rattle.entries.specs.Stored.{map_of}

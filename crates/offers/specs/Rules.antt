@@ -1,6 +1,5 @@
 -- The patterns that the rules of a problem give.
 use Rattle.std.specs.Prelude.{◌≡◌, ℕ, ◌+◌, ◌<◌, Bool, true, false, ◌⊎◌, List, [], ◌∷◌, reverse, length, Some, None, Option}
-use Rattle.terms.specs.Term.{Term}
 use Rattle.terms.specs.Patterns.{term_of}
 use Rattle.terms.specs.declared.pattern.Pattern.{Pattern}
 use Rattle.signature.specs.Signatures.{sig_of}
