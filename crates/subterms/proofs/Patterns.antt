@@ -1,6 +1,6 @@
 -- A pattern's row, and the table of its subterms.
-use Rattle.std.proofs.Common.{◌≡◌, ◌≤◌, length, sym, ap, ◌∙◌, append-nil, arith}
-use Rattle.std.proofs.lemmas.List.{length-take-le}
+use Rattle.std.proofs.Common.{◌≡◌, ◌≤◌, length, sym, ap, ◌∙◌, append-nil}
+use Rattle.row.proofs.Sizes.{within}
 use Rattle.terms.specs.Term.{cells}
 use Rattle.terms.specs.Preorder.{preorder, preorders}
 use Rattle.terms.specs.Patterns.{nodes_of, term_of}
@@ -9,7 +9,7 @@ use Rattle.subterms.proofs.Preorders.{length_preorder}
 use Rattle.subterms.proofs.Places.{from_is, from_whole}
 
 pub pattern_short : (p : Pattern) → length (nodes_of p) ≤ 32
-pattern_short p = omega (arith, length-take-le p.len p.nodes (omega (arith, p.short, p.room)), p.short)
+pattern_short p = within p.nodes
 
 -- a pattern's nodes are its term's preorder
 pub pattern_nodes : (p : Pattern) → nodes_of p ≡ preorder (term_of p)

@@ -1,9 +1,10 @@
 -- Walking a row of nodes from its end: how many terms it is the preorder of.
-use Rattle.std.proofs.Common.{◌≡◌, ℕ, zero, suc, ◌+◌, ◌-◌, ◌<◌, ◌≤◌, Bool, true, false, ◌&&◌, List, [], ◌∷◌, ◌++◌, length, get_or, drop, is_some, Some, None, Option, sym, refl, ap, ◌∙◌, inl, inr, append_assoc, append-nil, arith}
+use Rattle.std.proofs.Common.{◌≡◌, ℕ, zero, suc, ◌+◌, ◌-◌, ◌<◌, ◌≤◌, Bool, true, false, ◌&&◌, List, [], ◌∷◌, ◌++◌, reverse, length, get_or, drop, is_some, Some, None, Option, sym, refl, ap, ◌∙◌, subst, inl, inr, append_assoc, append-nil, arith}
+use Rattle.std.proofs.lemmas.List.{length-reverse, get_or-reverse, drop_more}
 use mathlib.Core.Bool.{false≢true}
 use Rattle.std.proofs.lemmas.Bool.{and_parts}
 use Rattle.terms.specs.Term.{Term, Terms, var, app, nil, ◌▹◌, width}
-use Rattle.terms.specs.Preorder.{split, in_front, row, alone, decode, small, all_small, Whole, Fits, Reads, Walked, preorder, preorders}
+use Rattle.terms.specs.Preorder.{split, in_front, row, alone, decode, arguments, small, all_small, Whole, Fits, Reads, Walked, preorder, preorders}
 use Rattle.terms.specs.declared.pattern.Node.{Node}
 use Rattle.terms.specs.declared.pattern.Node.TheVariants.{Var, App}
 
@@ -112,3 +113,20 @@ mutual
 
 pub decode_preorder : (t : Term) → decode (preorder t) ≡ Some t
 decode_preorder t = rw (← append-nil (preorder t), row_preorder t [] nil refl)
+
+-- the node at place k from the end stands in front of those behind it
+pub in_front_of : (ns : List Node) (k : ℕ) (n : Node) → (k < length (reverse ns)) × (n ≡ get_or (reverse ns) k n) → drop (length ns - (k + 1)) ns ≡ n ∷ drop (length ns - k) ns
+in_front_of ns k n t =
+    let lt : k < length ns = omega (arith, length-reverse ns, t.0) in
+    let i : length ns - 1 - k ≡ length ns - (k + 1) = omega arith in
+    let up : length ns - (k + 1) + 1 ≡ length ns - k = omega arith in
+    let is : n ≡ get_or ns (length ns - (k + 1)) n = t.1 ∙ get_or-reverse ns k n lt ∙ ap (λ j. get_or ns j n) i in
+    drop_more ns (length ns - (k + 1)) n (omega arith) ∙ ap (λ j. get_or ns (length ns - (k + 1)) n ∷ drop j ns) up ∙ ap (λ m. m ∷ drop (length ns - k) ns) (sym is)
+
+pub reads_node : (n : Node) (ns : List Node) (d : ℕ) → Reads (row ns) d → arguments n ≤ d → Reads (row (n ∷ ns)) (d - arguments n + 1)
+reads_node (Var x) ns d r le = subst (Reads (row (Var x ∷ ns))) (omega arith) (reads_var x ns d r)
+reads_node (App f a) ns d r le = reads_app f a ns d r le
+
+pub too_few : (n : Node) (ns : List Node) (d : ℕ) → Reads (row ns) d → (arguments n ≤ d → ⊥) → row (n ∷ ns) ≡ None
+too_few (Var x) ns d r h = absurd (h (omega arith))
+too_few (App f a) ns d r h = app_none f a ns d r (omega (arith, h))

@@ -49,6 +49,11 @@ abbrev pub small : Node → Bool
 small (Var x) = nat_lt x 16
 small (App f a) = nat_lt f 64 && nat_lt a 5
 
+-- how many arguments follow a node
+abbrev pub arguments : Node → ℕ
+arguments (Var x) = 0
+arguments (App f a) = a
+
 abbrev pub all_small : List Node → Bool
 all_small [] = true
 all_small (n ∷ ns) = small n && all_small ns

@@ -2,3 +2,4 @@
 #![tactic(auto)]
 
 pub mod pattern;
+pub mod side;

@@ -1,6 +1,8 @@
 // A pattern: a term of at most 32 cells, as the row of its nodes in preorder.
-ghost use Rattle.std.specs.Prelude.{◌≡◌, ◌≤◌, length, take};
+ghost use Rattle.row.specs.Items.{items};
 ghost use Rattle.terms.specs.Preorder.{Whole, Small};
+
+use row::Row;
 
 mod methods;
 
@@ -14,10 +16,7 @@ pub enum Node {
 // A pattern carries its symbols' numbers and arities: whether they are a signature's is asked elsewhere.
 #[derive(Clone, Copy)]
 pub struct Pattern {
-    nodes: [Node; 32],
-    len: usize,
-    ghost room: { length nodes ≡ 32 },
-    ghost short: { len ≤ 32 },
-    ghost whole: { Whole (take len nodes) },
-    ghost within: { Small (take len nodes) },
+    nodes: Row<Node, 32>,
+    ghost whole: { Whole (items nodes) },
+    ghost within: { Small (items nodes) },
 }

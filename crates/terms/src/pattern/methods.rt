@@ -1,9 +1,10 @@
 ghost use Rattle.std.specs.Prelude.{◌≡◌, ◌<◌, ◌≤◌, true, length, take, Decides, MatchOption};
 ghost use Rattle.terms.specs.Term.{var};
-ghost use Rattle.terms.specs.Preorder.{Fits, Walked, small};
+ghost use Rattle.terms.specs.Preorder.{Fits, Walked, small, arguments};
 ghost use Rattle.terms.specs.Patterns.{nodes_of, term_of};
 
 use super::{Node, Pattern};
+use row::Row;
 
 impl Node {
     // Whether the node's numbers lie within a pattern's limits.
@@ -13,6 +14,16 @@ impl Node {
         match *self {
             Node::Var(x) => x < 16,
             Node::App { symbol, arity } => symbol < 64 && arity < 5,
+        }
+    }
+
+    // How many arguments follow the node.
+    pub fn arity(&self) -> usize
+        ensures { result ≡ arguments self.now }
+    {
+        match *self {
+            Node::Var(_) => 0,
+            Node::App { arity, .. } => usize::from(arity),
         }
     }
 }
@@ -25,43 +36,32 @@ impl Pattern {
         if x >= 16 {
             return None;
         }
-        Some(Pattern {
-            nodes: [Node::Var(x); 32],
-            len: 1,
-        })
+        let nodes = Row::from_slice(&[Node::Var(x)], Node::Var(0))?;
+        Some(Pattern { nodes })
     }
 
     pub fn len(&self) -> usize
         ensures { result ≡ length (nodes_of self.now) }
     {
-        self.len
+        self.nodes.len()
     }
 
     // The nodes in preorder.
     pub fn nodes(&self) -> &[Node]
         ensures { result.now ≡ nodes_of self.now }
     {
-        &self.nodes[0..self.len]
+        self.nodes.as_slice()
     }
 
     // The pattern of a row of nodes, if the row is the preorder of one term and keeps the limits.
     pub fn new(nodes: &[Node]) -> Option<Pattern>
         ensures { MatchOption result (Fits nodes.now → ⊥) (λ p. nodes_of p ≡ nodes.now) }
     {
-        let len = nodes.len();
-        if len > 32 {
+        let row = Row::from_slice(nodes, Node::Var(0))?;
+        if walk(nodes)? != 1 {
             return None;
         }
-        let Some(terms) = walk(nodes) else {
-            return None;
-        };
-        if terms != 1 {
-            return None;
-        }
-        Some(Pattern {
-            nodes: padded(nodes),
-            len,
-        })
+        Some(Pattern { nodes: row })
     }
 }
 
@@ -70,37 +70,11 @@ fn walk(nodes: &[Node]) -> Option<usize>
     ensures { Walked nodes.now result }
 {
     let mut depth: usize = 0;
-    let mut i = nodes.len();
-    while i > 0 {
-        i -= 1;
-        if !nodes[i].is_small() {
+    for node in nodes.iter().rev() {
+        if !node.is_small() {
             return None;
         }
-        match nodes[i] {
-            Node::Var(_) => {
-                depth += 1;
-            }
-            Node::App { symbol: _, arity } => {
-                let a = arity as usize;
-                if a > depth {
-                    return None;
-                }
-                depth = depth - a + 1;
-            }
-        }
+        depth = depth.checked_sub(node.arity())? + 1;
     }
     Some(depth)
-}
-
-// The row in an array of 32.
-fn padded(nodes: &[Node]) -> [Node; 32]
-    requires { length nodes.now ≤ 32 }
-    ensures room { length result ≡ 32 }
-    ensures front { take (length nodes.now) result ≡ nodes.now }
-{
-    let mut filled = [Node::Var(0); 32];
-    for (i, node) in nodes.iter().enumerate() {
-        filled[i] = *node;
-    }
-    filled
 }
