@@ -1,7 +1,7 @@
 -- What a list of entries has under a number.
-use Rattle.std.proofs.Common.{◌≡◌, ℕ, ◌+◌, ◌<◌, true, false, cond, eqb, ◌⊎◌, List, [], ◌∷◌, ◌++◌, length, get_or, drop, is_some, Some, None, Option, sym, refl, ap, ◌∙◌, subst, inl, inr, arith}
-use Rattle.std.proofs.lemmas.List.{at_drop_more, get_or_default}
+use Rattle.std.proofs.Common.{◌≡◌, ℕ, zero, suc, ◌<◌, true, false, cond, eqb, ◌⊎◌, List, [], ◌∷◌, ◌++◌, length, get_or, is_some, Some, None, Option, MatchOption, sym, refl, ap, ◌∙◌, subst, inl, inr, arith}
 use Rattle.std.proofs.lemmas.Bool.{cases_eq, eq-eqb, ne_eqb, false≢true}
+use Rattle.std.specs.List.{AllWithin, HoldsAt}
 use Rattle.lists.specs.Members.{In, Once}
 use Rattle.lists.proofs.Members.{in_map, from_map}
 use Rattle.terms.specs.declared.pattern.Pattern.{Pattern}
@@ -18,21 +18,21 @@ here e es n h = rw (eq-eqb n e.number h)
 there : (e : Entry) (es : List Entry) (n : ℕ) → (n ≡ e.number → ⊥) → lookup (e ∷ es) n ≡ lookup es n
 there e es n h = rw (ne_eqb n e.number h)
 
--- a search from the front that has come to place i, where x stands
-module _ (es : List Entry) (n i : ℕ) (x : Entry) (l : i < length es) (is : x ≡ get_or es i x) (left : lookup es n ≡ lookup (drop i es) n) where
-  next : lookup es n ≡ lookup (x ∷ drop (i + 1) es) n
-  next = left ∙ at_drop_more (λ zs. lookup zs n) es i x l ∙ ap (λ y. lookup (y ∷ drop (i + 1) es) n) (sym is)
+-- the first entry with the number, or none
+no_entry : (es : List Entry) (n : ℕ) → AllWithin (λ e. e.number ≡ n → ⊥) es 0 (length es) → lookup es n ≡ None
+no_entry [] n h = refl
+no_entry (e ∷ es) n h = there e es n (λ q. h 0 e (omega arith) (omega arith) (sym q)) ∙ no_entry es n (λ k d _ l. h (suc k) d (omega arith) (omega arith))
 
-  pub search_ends : x.number ≡ n → Placed es n (Some i)
-  search_ends q = (
-    l,
-    λ d.
-        let e : x ≡ get_or es i d = is ∙ get_or_default es i x d l in
-        (ap (λ y. y.number) (sym e) ∙ q, next ∙ here x (drop (i + 1) es) n (sym q) ∙ ap (λ y. Some y.pattern) e),
-  )
+first_entry : (es : List Entry) (n i : ℕ) (d : Entry) → i < length es → (get_or es i d).number ≡ n → AllWithin (λ e. e.number ≡ n → ⊥) es 0 i → lookup es n ≡ Some (get_or es i d).pattern
+first_entry [] n i d l q h = absurd (let z : ⊥ = omega arith in z)
+first_entry (e ∷ es) n zero d l q h = here e es n (sym q)
+first_entry (e ∷ es) n (suc i) d l q h =
+    there e es n (λ z. h 0 e (omega arith) (omega arith) (sym z)) ∙ first_entry es n i d (omega arith) q (λ k x _ m. h (suc k) x (omega arith) (omega arith))
 
-  pub search_more : (x.number ≡ n → ⊥) → lookup es n ≡ lookup (drop (i + 1) es) n
-  search_more q = next ∙ there x (drop (i + 1) es) n (λ z. q (sym z))
+pub placed : (es : List Entry) (n : ℕ) (o : Option ℕ) → MatchOption o (AllWithin (λ e. e.number ≡ n → ⊥) es 0 (length es)) (λ i. (i < length es) × HoldsAt (λ e. e.number ≡ n) es i × AllWithin (λ e. e.number ≡ n → ⊥) es 0 i)
+    → Placed es n o
+placed es n None h = no_entry es n h
+placed es n (Some i) h = (h.0, λ d. (h.1 d, first_entry es n i d h.0 (h.1 d) h.2))
 
 pub in_numbers : (es : List Entry) (n : ℕ) → is_some (lookup es n) ≡ true → In n (numbers es)
 in_numbers [] n h = absurd (false≢true h)

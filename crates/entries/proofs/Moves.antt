@@ -1,6 +1,6 @@
 -- The last entry moves to the place of one that goes.
-use Rattle.std.proofs.Common.{◌≡◌, ℕ, ◌+◌, ◌<◌, ◌≤◌, List, [], ◌∷◌, ◌++◌, length, get_or, take, drop, set, None, sym, refl, ap, ◌∙◌, subst, inl, inr, add-one, arith}
-use Rattle.std.proofs.lemmas.List.{map-append, take_more, take-set-le, take-append-drop, take_at, drop_more, length-take-le, length-set, set-append_left, set_split, get_or-take}
+use Rattle.std.proofs.Common.{◌≡◌, ℕ, ◌+◌, ◌-◌, ◌<◌, List, [], ◌∷◌, ◌++◌, length, get_or, take, drop, set, swap_remove, None, sym, refl, ap, ◌∙◌, subst, inl, inr, add-one, arith}
+use Rattle.std.proofs.lemmas.List.{map-append, take_more, take_all, take-set-le, take-append-drop, take_at, drop_more, length-take-le, length-set, set-append_left, set_split, get_or-take}
 use Rattle.std.proofs.lemmas.Bool.{cases_eq, cases_lt}
 use Rattle.lists.specs.Members.{In, Once}
 use Rattle.lists.proofs.Members.{in_left, in_right, in_parts, in_map, once_append, once_left, once_right, once_apart}
@@ -56,31 +56,29 @@ moves ls x rs l o =
       ];
     }
 
--- as it stands in the array: m entries are left, and the one at place i goes
-pub moved : (items : List Entry) (m i : ℕ) (d : Entry) → m < length items → i ≤ m → Once (numbers (take (m + 1) items))
-    → Loses (take (m + 1) items) (take m (set items i (get_or items m d))) (get_or items i d).number
-moved items m i d lm li o =
-    let l = get_or items m d in
-    let x = get_or items i d in
-    let front = take m items in
-    let size : length front ≡ m = length-take-le m items (omega arith) in
-    let all : take (m + 1) items ≡ front ++ l ∷ [] = take_more items m d lm in
+-- the entry at place i goes
+pub moved : (es : List Entry) (i : ℕ) (d : Entry) → i < length es → Once (numbers es) → Loses es (swap_remove es i d) (get_or es i d).number
+moved es i d li o =
+    let m = length es - 1 in
+    let l = get_or es m d in
+    let x = get_or es i d in
+    let front = take m es in
+    let size : length front ≡ m = length-take-le m es (omega arith) in
+    let whole : es ≡ take (m + 1) es = sym (take_all (m + 1) es (omega arith)) in
+    let all : es ≡ front ++ l ∷ [] = whole ∙ take_more es m d (omega arith) in
     elim (cases_eq i m) [
       | inl q ↦
-          let same : take m (set items i l) ≡ front = take-set-le m items i l (omega arith) in
-          subst (λ n. Loses (take (m + 1) items) (take m (set items i l)) (get_or items n d).number) (sym q)
-          (subst (λ rs. Loses (take (m + 1) items) rs l.number) (sym same) (subst (λ es. Loses es front l.number) (sym all) (drops front l (subst (λ es. Once (numbers es)) all o))))
+          let same : take m (set es i l) ≡ front = take-set-le m es i l (omega arith) in
+          subst (λ n. Loses es (take m (set es i l)) (get_or es n d).number) (sym q)
+          (subst (λ rs. Loses es rs l.number) (sym same) (subst (λ zs. Loses zs front l.number) (sym all) (drops front l (subst (λ zs. Once (numbers zs)) all o))))
       | inr n ↦
           let lt : i < m = elim (cases_lt i m) [ inl h ↦ h | inr h ↦ absurd (n (let z : i ≡ m = omega arith in z)) ] in
           let back = drop (i + 1) front in
           let cut : front ≡ take i front ++ x ∷ back =
-          sym (take-append-drop i front) ∙ ap (λ zs. take i front ++ zs) (drop_more front i d (omega arith) ∙ ap (λ y. y ∷ back) (get_or-take m items i d lt)) in
-          let put : take m (set items i l) ≡ take i front ++ l ∷ back =
-          ap (λ zs. take m (set zs i l)) (sym (take-append-drop m items)) ∙ ap (take m) (set-append_left front (drop m items) i l (omega arith)) ∙ take_at (set front i l) (drop m items) m (length-set front i l ∙ size)
+          sym (take-append-drop i front) ∙ ap (λ zs. take i front ++ zs) (drop_more front i d (omega arith) ∙ ap (λ y. y ∷ back) (get_or-take m es i d lt)) in
+          let put : take m (set es i l) ≡ take i front ++ l ∷ back =
+          ap (λ zs. take m (set zs i l)) (sym (take-append-drop m es)) ∙ ap (take m) (set-append_left front (drop m es) i l (omega arith)) ∙ take_at (set front i l) (drop m es) m (length-set front i l ∙ size)
           ∙ set_split front i l (omega arith) ∙ ap (λ k. take i front ++ l ∷ drop k front) (sym (add-one i)) in
-          let whole : take (m + 1) items ≡ (take i front ++ x ∷ back) ++ l ∷ [] = all ∙ ap (λ zs. zs ++ l ∷ []) cut in
-          subst (λ zs. Loses (take (m + 1) items) zs x.number) (sym put) (subst (λ es. Loses es (take i front ++ l ∷ back) x.number) (sym whole) (moves (take i front) x back l (subst (λ es. Once (numbers es)) whole o)))
+          let parts : es ≡ (take i front ++ x ∷ back) ++ l ∷ [] = all ∙ ap (λ zs. zs ++ l ∷ []) cut in
+          subst (λ zs. Loses es zs x.number) (sym put) (subst (λ zs. Loses zs (take i front ++ l ∷ back) x.number) (sym parts) (moves (take i front) x back l (subst (λ zs. Once (numbers zs)) parts o)))
     ]
-
-pub once_front : (k : ℕ) (es : List Entry) → Once (numbers es) → Once (numbers (take k es))
-once_front k es o = once_left (numbers (take k es)) (numbers (drop k es)) (subst Once (ap numbers (sym (take-append-drop k es)) ∙ numbers_append (take k es) (drop k es)) o)

@@ -1,9 +1,11 @@
 // Numbers with their patterns, at most N of them, in a fixed array.
 #![tactic(auto)]
 
-ghost use Rattle.std.specs.Prelude.{◌≡◌, ◌≤◌, true, length, take};
+ghost use Rattle.std.specs.Prelude.{◌≡◌, true};
+ghost use Rattle.row.specs.Items.{items};
 ghost use Rattle.entries.specs.Lookup.{numbers, distinct};
 
+use row::Row;
 use terms::pattern::Pattern;
 
 mod methods;
@@ -14,12 +16,9 @@ pub struct Entry {
     pub pattern: Pattern,
 }
 
-// The first `len` items are the entries, in no order.
+// The entries are in no order.
 #[derive(Clone, Copy)]
 pub struct Entries<const N: usize> {
-    items: [Entry; N],
-    len: usize,
-    ghost room: { length items ≡ N },
-    ghost within: { len ≤ N },
-    ghost apart: { distinct (numbers (take len items)) ≡ true },
+    entries: Row<Entry, N>,
+    ghost apart: { distinct (numbers (items entries)) ≡ true },
 }

@@ -5,6 +5,7 @@ ghost use Rattle.entries.specs.Stored.{entries_of, numbers_of, map_of};
 
 use super::{Entries, Entry};
 use refusal::Refusal;
+use row::{Full, Row};
 use terms::pattern::Pattern;
 
 impl<const N: usize> Entries<N> {
@@ -13,37 +14,34 @@ impl<const N: usize> Entries<N> {
     {
         let pattern = Pattern::variable(0).unwrap();
         Entries {
-            items: [Entry { number: 0, pattern }; N],
-            len: 0,
+            entries: Row::new(Entry { number: 0, pattern }),
         }
     }
 
     pub fn len(&self) -> usize
         ensures { result ≡ length (numbers_of self.now) }
     {
-        self.items().len()
+        self.entries.len()
     }
 
     pub fn items(&self) -> &[Entry]
         ensures { result.now ≡ entries_of self.now }
     {
-        let all = &self.items[..];
-        &all[..self.len]
+        self.entries.as_slice()
     }
 
     pub fn clear(&mut self)
         ensures { (n : ℕ) → map_of self.new n ≡ None }
     {
-        self.len = 0;
+        self.entries.clear();
     }
 
     pub fn get(&self, number: u16) -> Result<Pattern, Refusal>
         ensures { Told (map_of self.now) number result }
     {
-        match place(self.items(), number) {
-            Some(at) => Ok(self.items[at].pattern),
-            None => Err(Refusal::NumberAbsent),
-        }
+        let entries = self.items();
+        let at = place(entries, number).ok_or(Refusal::NumberAbsent)?;
+        Ok(entries[at].pattern)
     }
 
     pub fn insert(&mut self, number: u16, pattern: &Pattern) -> Result<(), Refusal>
@@ -53,26 +51,19 @@ impl<const N: usize> Entries<N> {
         if taken {
             return Err(Refusal::NumberTaken);
         }
-        if self.len >= N {
-            return Err(Refusal::CapacityReached);
+        let pattern = *pattern;
+        match self.entries.push(Entry { number, pattern }) {
+            Ok(()) => Ok(()),
+            Err(Full) => Err(Refusal::CapacityReached),
         }
-        self.items[self.len] = Entry {
-            number,
-            pattern: *pattern,
-        };
-        self.len += 1;
-        Ok(())
     }
 
     // The last entry takes the place that gets free.
     pub fn remove(&mut self, number: u16) -> Result<(), Refusal>
         ensures { Removed (map_of self.old) number (map_of self.new) result }
     {
-        let Some(at) = place(self.items(), number) else {
-            return Err(Refusal::NumberAbsent);
-        };
-        self.len -= 1;
-        self.items[at] = self.items[self.len];
+        let at = place(self.items(), number).ok_or(Refusal::NumberAbsent)?;
+        let _ = self.entries.swap_remove(at);
         Ok(())
     }
 }
@@ -80,10 +71,5 @@ impl<const N: usize> Entries<N> {
 fn place(entries: &[Entry], number: u16) -> Option<usize>
     ensures { Placed entries.now number result }
 {
-    for (i, entry) in entries.iter().enumerate() {
-        if entry.number == number {
-            return Some(i);
-        }
-    }
-    None
+    entries.iter().position(|entry| entry.number == number)
 }

@@ -45,21 +45,5 @@ fn are_alike(xs: &[u16], ys: &[u16]) -> bool
 fn has_all(list: &[u16], items: &[u16]) -> bool
     ensures { Decides result ((n : ℕ) → In n items.now → In n list.now) }
 {
-    for item in items {
-        if !has(list, *item) {
-            return false;
-        }
-    }
-    true
-}
-
-fn has(list: &[u16], item: u16) -> bool
-    ensures { Decides result (In item list.now) }
-{
-    for x in list {
-        if *x == item {
-            return true;
-        }
-    }
-    false
+    items.iter().all(|n| list.contains(n))
 }

@@ -50,15 +50,18 @@ impl<'a, T: Copy> List<'a, T> {
         len
     }
 
+    // The counted cells, as far as there are any.
+    fn items(&self) -> &[T]
+        ensures { result.now ≡ take self.now.count.now.len self.now.cells.now }
+    {
+        let cells = &*self.cells;
+        &cells[..self.count.len.min(cells.len())]
+    }
+
     pub fn get(&self, at: usize) -> Option<T>
         ensures { MatchOption result ((at < self.now.count.now.len) × (at < length self.now.cells.now) → ⊥) (λ x. (at < self.now.count.now.len) × (at < length self.now.cells.now) × (x ≡ slice_index_or self.now.cells.now at x)) }
     {
-        let cells = &*self.cells;
-        if at < self.count.len && at < cells.len() {
-            Some(cells[at])
-        } else {
-            None
-        }
+        self.items().get(at).copied()
     }
 
     // Adds an item, if a cell is free.
@@ -98,13 +101,7 @@ impl<'a, T: Exact> List<'a, T> {
     pub fn find_first(&self, item: T) -> Option<usize>
         ensures { First self.now.cells.now self.now.count.now.len item result }
     {
-        let cells = &*self.cells;
-        for i in 0..self.count.len.min(cells.len()) {
-            if cells[i].same(&item) {
-                return Some(i);
-            }
-        }
-        None
+        self.items().iter().position(|x| x.same(&item))
     }
 }
 

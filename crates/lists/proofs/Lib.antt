@@ -1,3 +1,4 @@
 pub mod Members
 pub mod Chosen
 pub mod Counting
+pub mod Tests
