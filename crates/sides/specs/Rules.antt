@@ -1,31 +1,22 @@
 -- Which formulas may become rewrite rules, how their sides compare, and their text.
-use Rattle.std.specs.Prelude.{◌≡◌, ℕ, Bool, true, false, List, [], length, vec_items}
+use Rattle.std.specs.Prelude.{◌≡◌, ℕ, List, [], length, take, vec_items}
 use Rattle.terms.specs.Term.{Term}
 use Rattle.terms.specs.Patterns.{term_of}
 use Rattle.signature.specs.Signatures.{sig_of, names_of}
 use Rattle.signature.specs.Written.{written}
 use Rattle.signature.specs.declared.signature.Signature.{Signature}
-use Rattle.formula.specs.declared.equation.Role.{Role}
-use Rattle.formula.specs.declared.equation.Role.TheVariants.{Axiom, Hypothesis, NegatedConjecture, Other}
-use Rattle.formula.specs.declared.equation.Sign.{Sign}
-use Rattle.formula.specs.declared.equation.Sign.TheVariants.{Equal, Unequal}
+pub use Rattle.formula.specs.Roles.{rule}
 use Rattle.formula.specs.declared.equation.Equation.{Equation}
 use Rattle.rewriting.specs.Order.{Within}
 use Rattle.rewriting.specs.Kbo.{Kbo}
 use Rattle.rewriting.specs.Lpo.{Lpo}
 use Rattle.order.specs.Sides.{Turned}
 use Rattle.bank.specs.declared.cell.Cell.{Cell}
+use Rattle.bank.specs.Means.{Means}
 use Rattle.enter.specs.Grown.{Grown}
+use Rattle.writer.specs.Outcome.{Readable}
 use Rattle.sides.specs.declared.Higher.{Higher}
 use Rattle.sides.specs.declared.Sides.{Sides}
-
--- axioms and hypotheses with =
-abbrev pub rule : Role → Sign → Bool
-rule Axiom Equal = true
-rule Hypothesis Equal = true
-rule NegatedConjecture Equal = false
-rule Other Equal = false
-rule r Unequal = false
 
 pub record Compared (s : Signature) (e : Equation) (h : Higher) : Type 0 where
   pub weighed : Turned (Within (sig_of s) (Kbo (sig_of s).weight)) h.knuth_bendix (term_of e.left) (term_of e.right)
@@ -37,6 +28,13 @@ pub record Held (s : Signature) (t : Term) (before after : List Cell) (n : ℕ) 
   pub grown : Grown (sig_of s) before t after cell
   pub counted : n ≡ length after
   pub is : text ≡ written (names_of s) t
+
+-- the cell is one of a bank that keeps its rules, and the text is its term's
+pub record Told (s : Signature) (cells : List Cell) (n i : ℕ) (text : List ℕ) : Type 0 where
+  pub readable : Readable s cells n i
+  pub term : Term
+  pub means : Means (take n cells) i term
+  pub is : text ≡ written (names_of s) term
 
 -- both texts, and the number of cells of a bank that holds both sides and nothing else
 pub record Texts (s : Signature) (e : Equation) (texts : Sides) : Type 0 where

@@ -4,11 +4,11 @@
 ghost use Rattle.std.specs.Prelude.{◌≡◌, true, false, take, IfOk, MatchOption};
 ghost use Rattle.terms.specs.Patterns.{term_of};
 ghost use Rattle.sides.specs.declared.Fault.TheVariants.{Refused, NoMemory};
-ghost use Rattle.sides.specs.Rules.{rule, Compared, Held, Texts};
+ghost use Rattle.sides.specs.Rules.{rule, Compared, Held, Texts, Told};
 
 use bank::cell::Cell;
 use enter::enter;
-use formula::equation::{Equation, Role, Sign};
+use formula::equation::Equation;
 use kbo::KnuthBendix;
 use lent_list::Count;
 use lpo::LexicographicPath;
@@ -20,6 +20,9 @@ use signature::signature::Signature;
 use std::alloc::{AllocError, Global};
 use terms::pattern::Pattern;
 use writer::write_term;
+
+#[cfg(test)]
+mod tests;
 
 // As large as a bank may be.
 const BANK: usize = 2048;
@@ -85,6 +88,19 @@ fn write_side(
     ensures { IfOk result (λ v. Held signature.now (term_of side.now) (take count.old.len cells.old) (take count.new.len cells.new) count.new.len v.items) }
 {
     let cell = enter(signature, side, cells, count)?;
+    text_of(heap, signature, cells, count, cell)
+}
+
+// The text of a counted cell's term, if that is no longer than a pattern's.
+pub fn text_of(
+    heap: Global,
+    signature: &Signature,
+    cells: &[Cell],
+    count: &Count,
+    cell: u16,
+) -> Result<Vec<u8>, Fault>
+    ensures { IfOk result (λ v. Told signature.now cells.now count.now.len cell v.items) }
+{
     let mut text = vec![in heap; 0; LONGEST]?;
     let len = write_term(signature, cells, count, cell, text.as_mut_slice())?;
     text.truncate(len);
@@ -102,7 +118,7 @@ pub struct Higher {
 pub fn higher_sides(signature: &Signature, equation: &Equation) -> Option<Higher>
     ensures { MatchOption result (rule equation.now.role equation.now.sign ≡ false) (λ h. (rule equation.now.role equation.now.sign ≡ true) × Compared signature.now equation.now h) }
 {
-    if !is_rule(equation.role, equation.sign) {
+    if !equation.is_rule() {
         return None;
     }
     Some(Higher {
@@ -114,14 +130,4 @@ pub fn higher_sides(signature: &Signature, equation: &Equation) -> Option<Higher
             &equation.right,
         ),
     })
-}
-
-// Axioms and hypotheses with = are rules; others are goals.
-fn is_rule(role: Role, sign: Sign) -> bool
-    ensures { result ≡ rule role sign }
-{
-    match (role, sign) {
-        (Role::Axiom | Role::Hypothesis, Sign::Equal) => true,
-        _ => false,
-    }
 }

@@ -1,8 +1,9 @@
 -- The row of a pattern, and rows of patterns one by one.
-use Rattle.std.proofs.Common.{◌≡◌, ℕ, ◌+◌, ◌-◌, ◌≤◌, true, ◌&&◌, leb, List, [], ◌∷◌, map, length, is_some, Some, None, Option, sym, refl, ap, ◌∙◌, subst, inl, inr, arith, length-take}
+use Rattle.std.proofs.Common.{◌≡◌, ℕ, ◌+◌, ◌-◌, ◌≤◌, true, ◌&&◌, leb, List, [], ◌∷◌, map, length, is_some, Some, None, Option, sym, refl, ap, ◌∙◌, subst, inl, inr, arith}
 use Rattle.std.proofs.lemmas.List.{length-map}
 use Rattle.std.proofs.lemmas.Bool.{and_parts, and_from, le-leb, cases_lt}
 use Rattle.lists.specs.Members.{In}
+use Rattle.row.proofs.Sizes.{within}
 use Rattle.terms.specs.Term.{Terms, width}
 use Rattle.terms.specs.Preorder.{row, in_front, decode, small, all_small, Whole, Reads}
 use Rattle.terms.specs.Patterns.{nodes_of}
@@ -99,7 +100,7 @@ pub pattern_fits : (p : Pattern) (n : ℕ) → fits_pattern (nodes_in (string_of
 pattern_fits p n =
     let ns = nodes_of p in
     let len = length-map ns plain in
-    let short : length ns ≤ 32 = simp length-take (omega (arith, p.short)) in
+    let short : length ns ≤ 32 = within p.nodes in
     subst (λ o. fits_pattern o ≡ true) (sym (nodes_back ns n))
     (and_from (leb (length (map plain ns)) 32) (is_some (decode (map plain ns)) && all_small (map plain ns)) (le-leb (length (map plain ns)) 32 (omega arith))
     (and_from (is_some (decode (map plain ns))) (all_small (map plain ns)) (plain_whole ns p.whole) (plain_small ns p.within)))
