@@ -6,8 +6,6 @@ use signature::signature::Signature;
 use std::{env, fs, io};
 
 mod report;
-mod shown;
-mod words;
 
 static USAGE: &str = "usage: dodgelaurel SIGNATURE [PROBLEM]\n\
 SIGNATURE is a file with a line for each symbol: its name, a tab, its arity, a tab, its weight.\n\

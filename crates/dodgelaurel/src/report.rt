@@ -1,13 +1,13 @@
 // What is printed of a signature, of a formula and of a refusal.
-use crate::shown::{Marked, Shown};
-use crate::words::{role_word, side_words, sign_word};
 use formula::equation::Equation;
 use grammar::part::Part;
 use grammar::reader::Reader;
-use places::{line_place, place_of};
+use places::{Place, line_place, place_of};
+use printing::shown::{Equality, Higher, Marked, Shown};
+use printing::{print_refusal, sides_of};
 use refusal::Refusal;
 use round_trip::read;
-use sides::{Fault, higher_sides, write_sides};
+use sides::higher_sides;
 use signature::signature::Signature;
 use std::io;
 
@@ -23,18 +23,14 @@ pub fn print_signature(rt: &HostRuntime, signature: &Signature) -> io::Result<()
 
 // Nothing, if the signature has no such symbol.
 fn print_symbol(rt: &HostRuntime, signature: &Signature, symbol: u8) -> io::Result<()> {
-    let Some(name) = signature.name(symbol) else {
+    let (Some(name), Some(arity), Some(weight)) = (
+        signature.name(symbol),
+        signature.arity(symbol),
+        signature.weight(symbol),
+    ) else {
         return Ok(());
     };
-    let Some(arity) = signature.arity(symbol) else {
-        return Ok(());
-    };
-    let Some(weight) = signature.weight(symbol) else {
-        return Ok(());
-    };
-    let word = Shown {
-        bytes: name.bytes(),
-    };
+    let word = Shown(name.bytes());
     println!(rt; "  {symbol:>2} {word}: arity {arity}, weight {weight}")
 }
 
@@ -46,17 +42,14 @@ pub fn print_problem(rt: &HostRuntime, signature: &Signature, text: &[u8]) -> io
         Err(refusal) => return print_refusal(rt, refusal),
     };
     loop {
-        let step = match reader.next() {
-            Ok(step) => step,
+        match reader.next() {
+            Ok(Some(part)) => print_part(rt, signature, text, part)?,
+            Ok(None) => return Ok(()),
             Err(refusal) => {
                 print_refused_at(rt, text, 0, refusal)?;
                 return rt.println("The reading stops here.");
             }
-        };
-        let Some(part) = step else {
-            return Ok(());
-        };
-        print_part(rt, signature, text, part)?;
+        }
     }
 }
 
@@ -68,8 +61,7 @@ fn print_part(
 ) -> io::Result<()> {
     let byte = part.place;
     if let Some(place) = place_of(text, byte) {
-        let line = place.line;
-        let column = place.column;
+        let Place { line, column, .. } = place;
         print!(rt; "{line}:{column} (byte {byte}): ")?;
     }
     match read(signature, part.bytes) {
@@ -82,20 +74,15 @@ fn print_part(
 }
 
 fn print_equation(rt: &HostRuntime, signature: &Signature, equation: &Equation) -> io::Result<()> {
-    let sides = match write_sides(rt.alloc(), signature, equation) {
-        Ok(sides) => sides,
-        Err(Fault::Refused(refusal)) => return print_refusal(rt, refusal),
-        Err(Fault::NoMemory) => return Err(io::Error::from(io::ErrorKind::OutOfMemory)),
+    let Some(sides) = sides_of(rt, signature, equation)? else {
+        return Ok(());
     };
-    let role = role_word(equation.role);
-    let sign = sign_word(equation.sign);
-    let left = Shown {
-        bytes: sides.left.as_slice(),
+    let role = equation.role;
+    let equality = Equality {
+        sides: &sides,
+        sign: equation.sign,
     };
-    let right = Shown {
-        bytes: sides.right.as_slice(),
-    };
-    println!(rt; "{role}\n  {left} {sign} {right}")?;
+    println!(rt; "{role}\n  {equality}")?;
     let left_len = equation.left.len();
     let right_len = equation.right.len();
     let cells = sides.cells;
@@ -108,14 +95,9 @@ fn print_higher(rt: &HostRuntime, signature: &Signature, equation: &Equation) ->
     let Some(turned) = higher_sides(signature, equation) else {
         return Ok(());
     };
-    let weighed = side_words(turned.knuth_bendix);
-    let path = side_words(turned.path);
+    let weighed = Higher(turned.knuth_bendix);
+    let path = Higher(turned.path);
     println!(rt; "  Knuth-Bendix order: {weighed}\n  lexicographic path order: {path}")
-}
-
-fn print_refusal(rt: &HostRuntime, refusal: Refusal) -> io::Result<()> {
-    let number = refusal.number();
-    println!(rt; "  refused {number}: {refusal}")
 }
 
 // The refusal of a signature, with the line that it names.
@@ -128,11 +110,7 @@ pub fn print_bad_signature(rt: &HostRuntime, text: &[u8], refusal: Refusal) -> i
     let Some(place) = line_place(text, line) else {
         return Ok(());
     };
-    let from = place.start;
-    let to = place.end;
-    let row = Shown {
-        bytes: &text[from..to],
-    };
+    let row = Shown(&text[place.start..place.end]);
     println!(rt; "    | {row}")
 }
 
@@ -149,13 +127,10 @@ fn print_refused_at(
     let Some(place) = place_of(text, start.saturating_add(byte)) else {
         return print_refusal(rt, refusal);
     };
-    let line = place.line;
-    let column = place.column;
+    let Place { line, column, .. } = place;
     let number = refusal.number();
-    let from = place.start;
-    let to = place.end;
     let marked = Marked {
-        line: &text[from..to],
+        line: &text[place.start..place.end],
         column,
     };
     println!(rt; "  refused {number} at {line}:{column}: {refusal}\n{marked}")

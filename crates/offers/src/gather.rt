@@ -3,10 +3,10 @@ ghost use Rattle.offers.specs.Rules.{Higher, Step, Gathered};
 
 use crate::Patterns;
 use formula::equation::Equation;
-use order::sides::Side;
 use sides::higher_sides;
 use signature::signature::Signature;
 use terms::pattern::Pattern;
+use terms::side::Side;
 
 // What is rewritten by the rules of a problem, and how many rules found no room.
 #[derive(Drop)]

@@ -12,7 +12,6 @@ use signature::signature::Signature;
 use terms::pattern::Pattern;
 
 pub mod orient;
-pub mod sides;
 
 pub trait ReductionOrder {
     // s is above t: of all terms of the signature, of any size.

@@ -7,9 +7,9 @@ ghost use Rattle.rewriting.specs.Steps.{Rewrites};
 ghost use Rattle.order.specs.Sides.{Turned};
 
 use crate::ReductionOrder;
-use crate::sides::Side;
 use signature::signature::Signature;
 use terms::pattern::Pattern;
+use terms::side::Side;
 
 // The higher of two terms. Rewriting by such rules, from their higher sides to their lower, ends.
 pub fn orient<O: ReductionOrder>(

@@ -3,9 +3,9 @@ use kbo::KnuthBendix;
 use lpo::LexicographicPath;
 use order::ReductionOrder;
 use order::orient::orient;
-use order::sides::Side;
 use signature::signature::Signature;
 use terms::pattern::{Node, Pattern};
+use terms::side::Side;
 
 static NUMBERS: &[u8] = b"z\t0\t1\ns\t1\t1\na\t2\t1\n";
 

@@ -3,41 +3,45 @@
 
 use formula::equation::Equation;
 use refusal::Refusal;
-use shown::Shown;
-use sides::{Fault, write_sides};
+use shown::Equality;
+use sides::{Fault, Sides, write_sides};
 use signature::signature::Signature;
 use std::io;
-use words::sign_word;
 
 pub mod shown;
-pub mod words;
 
 pub fn print_refusal(rt: &HostRuntime, refusal: Refusal) -> io::Result<()> {
     let number = refusal.number();
     println!(rt; "  refused {number}: {refusal}")
 }
 
-// How many cells of a bank the two sides share.
-pub fn print_sides(
+// What there is to show; a refusal is printed in its place.
+pub fn or_refusal<T: Drop>(rt: &HostRuntime, written: Result<T, Fault>) -> io::Result<Option<T>> {
+    match written {
+        Ok(it) => Ok(Some(it)),
+        Err(Fault::Refused(refusal)) => {
+            print_refusal(rt, refusal)?;
+            Ok(None)
+        }
+        Err(Fault::NoMemory) => Err(io::Error::from(io::ErrorKind::OutOfMemory)),
+    }
+}
+
+// Both sides as text; a refusal is printed in their place.
+pub fn sides_of(
     rt: &HostRuntime,
     signature: &Signature,
     equation: &Equation,
-) -> io::Result<usize> {
-    let sides = match write_sides(rt.alloc(), signature, equation) {
-        Ok(sides) => sides,
-        Err(Fault::Refused(refusal)) => {
-            print_refusal(rt, refusal)?;
-            return Ok(0);
-        }
-        Err(Fault::NoMemory) => return Err(io::Error::from(io::ErrorKind::OutOfMemory)),
+) -> io::Result<Option<Sides>> {
+    or_refusal(rt, write_sides(rt.alloc(), signature, equation))
+}
+
+pub fn print_sides(rt: &HostRuntime, signature: &Signature, equation: &Equation) -> io::Result<()> {
+    let Some(sides) = sides_of(rt, signature, equation)? else {
+        return Ok(());
     };
-    let sign = sign_word(equation.sign);
-    let left = Shown {
-        bytes: sides.left.as_slice(),
-    };
-    let right = Shown {
-        bytes: sides.right.as_slice(),
-    };
-    println!(rt; "{left} {sign} {right}")?;
-    Ok(sides.cells)
+    rt.println(Equality {
+        sides: &sides,
+        sign: equation.sign,
+    })
 }

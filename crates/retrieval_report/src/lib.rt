@@ -5,17 +5,17 @@ use bank::cell::Cell;
 use enter::enter;
 use formula::equation::{Equation, Role};
 use lent_list::Count;
-use offers::Patterns;
 use offers::ask::ask;
 use offers::gather::{Rules, gather};
 use offers::goal::enter_sides;
+use offers::{Offer, Patterns};
 use printing::shown::{Listed, Shown};
-use printing::{print_refusal, print_sides};
-use refusal::Refusal;
+use printing::{or_refusal, print_refusal, print_sides};
+use sides::{Fault, text_of};
 use signature::signature::Signature;
+use std::alloc::Global;
 use std::io;
 use terms::pattern::Pattern;
-use writer::write_term;
 
 pub fn print_retrieval(
     rt: &HostRuntime,
@@ -25,7 +25,7 @@ pub fn print_retrieval(
     let rules = gather(signature, formulas);
     print_rules(rt, signature, &rules)?;
     for formula in formulas {
-        if let Role::NegatedConjecture = formula.role {
+        if formula.role == Role::NegatedConjecture {
             print_goal(rt, signature, &rules.patterns, formula)?;
         }
     }
@@ -55,45 +55,19 @@ fn print_pattern(
     number: u16,
     pattern: &Pattern,
 ) -> io::Result<()> {
+    let Some(text) = or_refusal(rt, pattern_text(rt.alloc(), signature, pattern))? else {
+        return Ok(());
+    };
+    let term = Shown(text.as_slice());
+    println!(rt; "  {number:>2} {term}")
+}
+
+// The pattern's text, from a bank of its own.
+fn pattern_text(heap: Global, signature: &Signature, pattern: &Pattern) -> Result<Vec<u8>, Fault> {
     let mut cells = [Cell::Var(0); 32];
     let mut count = Count { len: 0 };
-    let cell = match enter(signature, pattern, &mut cells, &mut count) {
-        Ok(cell) => cell,
-        Err(refusal) => return print_refusal(rt, refusal),
-    };
-    match text_of(signature, &cells, &count, cell) {
-        Ok(text) => {
-            let term = text.shown();
-            println!(rt; "  {number:>2} {term}")
-        }
-        Err(refusal) => print_refusal(rt, refusal),
-    }
-}
-
-// A pattern has at most 32 cells, each at most a name of 16 bytes with a parenthesis and a comma.
-#[derive(Drop)]
-struct Text {
-    bytes: [u8; 1024],
-    len: usize,
-}
-
-impl Text {
-    fn shown(&self) -> Shown<'_> {
-        Shown {
-            bytes: &self.bytes[..self.len.min(1024)],
-        }
-    }
-}
-
-fn text_of(
-    signature: &Signature,
-    cells: &[Cell],
-    count: &Count,
-    cell: u16,
-) -> Result<Text, Refusal> {
-    let mut bytes = [0; 1024];
-    let len = write_term(signature, cells, count, cell, &mut bytes)?;
-    Ok(Text { bytes, len })
+    let cell = enter(signature, pattern, &mut cells, &mut count)?;
+    text_of(heap, signature, &cells, &count, cell)
 }
 
 // The sides of a formula have together at most 64 cells.
@@ -122,14 +96,13 @@ fn print_subterms(
 ) -> io::Result<()> {
     let mut agree = true;
     for cell in 0..count.len.min(64) as u16 {
-        let agrees = print_subterm(rt, signature, patterns, cells, count, cell)?;
-        agree = agree && agrees;
+        agree &= print_subterm(rt, signature, patterns, cells, count, cell)?;
     }
-    if agree {
-        rt.println("  The plain list gives what the filter keeps.")
+    rt.println(if agree {
+        "  The plain list gives what the filter keeps."
     } else {
-        rt.println("  The plain list does not give what the filter keeps.")
-    }
+        "  The plain list does not give what the filter keeps."
+    })
 }
 
 // Whether the plain list agrees.
@@ -141,23 +114,26 @@ fn print_subterm(
     count: &Count,
     cell: u16,
 ) -> io::Result<bool> {
-    let (text, found) = match (
-        text_of(signature, cells, count, cell),
-        ask(patterns, signature, cells, count, cell),
-    ) {
-        (Ok(text), Ok(found)) => (text, found),
-        (Err(refusal), _) | (_, Err(refusal)) => {
-            print_refusal(rt, refusal)?;
-            return Ok(false);
-        }
+    let found = text_and_offer(rt.alloc(), signature, patterns, cells, count, cell);
+    let Some((text, offer)) = or_refusal(rt, found)? else {
+        return Ok(false);
     };
-    let term = text.shown();
-    let offered = Listed {
-        numbers: found.offered.as_slice(),
-    };
-    let kept = Listed {
-        numbers: found.kept.as_slice(),
-    };
+    let term = Shown(text.as_slice());
+    let offered = Listed(offer.offered.as_slice());
+    let kept = Listed(offer.kept.as_slice());
     println!(rt; "  {term}: the tree offers {offered}; the filter keeps {kept}")?;
-    Ok(found.agrees)
+    Ok(offer.agrees)
+}
+
+fn text_and_offer(
+    heap: Global,
+    signature: &Signature,
+    patterns: &Patterns,
+    cells: &[Cell],
+    count: &Count,
+    cell: u16,
+) -> Result<(Vec<u8>, Offer), Fault> {
+    let text = text_of(heap, signature, cells, count, cell)?;
+    let offer = ask(patterns, signature, cells, count, cell)?;
+    Ok((text, offer))
 }

@@ -4,10 +4,10 @@ ghost use Rattle.session.specs.Rules.{Ranged, RuleChecked, Turns};
 use formula::equation::{Equation, Role, Sign};
 use order::ReductionOrder;
 use order::orient::orient;
-use order::sides::Side;
 use reduction::oriented::Oriented;
 use refusal::Refusal;
 use signature::signature::Signature;
+use terms::side::Side;
 
 pub fn check_number(number: u32) -> Result<u16, Refusal>
     ensures { Ranged number result }

@@ -14,11 +14,11 @@ use lent_list::Count;
 use lpo::LexicographicPath;
 use order::ReductionOrder;
 use order::orient::orient;
-use order::sides::Side;
 use refusal::Refusal;
 use signature::signature::Signature;
 use std::alloc::{AllocError, Global};
 use terms::pattern::Pattern;
+use terms::side::Side;
 use writer::write_term;
 
 #[cfg(test)]
