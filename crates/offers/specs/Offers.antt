@@ -1,5 +1,6 @@
 -- What is found for a cell's term.
 use Rattle.std.specs.Prelude.{◌≡◌, ℕ, true, List, take, Ok, Err, Decides, Result}
+use Rattle.row.specs.Items.{items}
 use Rattle.refusal.specs.declared.Refusal.{Refusal}
 use Rattle.terms.specs.Sig.{Sig}
 use Rattle.terms.specs.declared.pattern.Pattern.{Pattern}
@@ -9,17 +10,13 @@ use Rattle.index.specs.Questions.{MayAsk}
 use Rattle.index.specs.Agreement.{Agree}
 use Rattle.discrimination_tree.specs.Loose.{LooseGeneralizations}
 use Rattle.offers.specs.declared.Patterns.{Patterns}
-use Rattle.offers.specs.declared.Numbers.{Numbers}
 use Rattle.offers.specs.declared.Offer.{Offer}
 use Rattle.offers.specs.Numbered.{in_tree, in_list, Kept}
 
-abbrev pub numbers_of : Numbers → List ℕ
-numbers_of s = take s.len s.items
-
 -- offered is what generalizes the term were each variable occurrence a variable of its own; kept is what generalizes it
 pub record Found (s : Patterns) (b : List Cell) (i : ℕ) (o : Offer) : Type 0 where
-  pub offered : LooseGeneralizations (in_tree s) b i (numbers_of o.offered)
-  pub kept : Generalizations (in_tree s) b i (numbers_of o.kept)
+  pub offered : LooseGeneralizations (in_tree s) b i (items o.offered)
+  pub kept : Generalizations (in_tree s) b i (items o.kept)
   pub decided : Decides o.agrees (Agree (in_list s) (in_tree s) b i)
   pub agrees : (ps : List Pattern) → Kept s ps → o.agrees ≡ true
 

@@ -1,30 +1,23 @@
 // What the tree offers for a cell's term.
-ghost use Rattle.std.specs.Prelude.{◌≡◌, replicate};
+ghost use Rattle.std.specs.Prelude.{replicate};
 ghost use Rattle.terms.specs.Sig.{Sig};
 ghost use Rattle.signature.specs.Signatures.{sig_of};
 ghost use Rattle.index.specs.Questions.{Asked};
 ghost use Rattle.index.specs.Found.{Generalizations};
 ghost use Rattle.discrimination_tree.specs.Loose.{LooseGeneralizations};
 ghost use Rattle.offers.specs.Numbered.{in_tree};
-ghost use Rattle.offers.specs.Offers.{numbers_of, Answered};
+ghost use Rattle.offers.specs.Offers.{Answered};
+ghost use Rattle.row.specs.Items.{items};
 
-use crate::{Numbers, Offer, Patterns};
+use crate::{Offer, Patterns};
 use bank::cell::Cell;
 use index::agree::agree;
 use index::exact::ExactIndex;
 use index::question::check_question;
 use lent_list::Count;
 use refusal::Refusal;
+use row::Row;
 use signature::signature::Signature;
-
-impl Numbers {
-    pub fn as_slice(&self) -> &[u16]
-        ensures { result.now ≡ numbers_of self.now }
-    {
-        let all = &self.items[..];
-        &all[..self.len]
-    }
-}
 
 // The question is put to the tree, to the filter over it and to the plain list.
 pub fn ask(
@@ -55,31 +48,26 @@ pub fn ask(
     })
 }
 
-fn loose(patterns: &Patterns, bank: &[Cell], cell: u16) -> Numbers
-    ensures { (S : Sig) → Asked S bank.now cell 64 (replicate 64 0) → LooseGeneralizations (in_tree patterns.now) bank.now cell (numbers_of result) }
+// Like `exact` but for the call: a closure in its place would have to say again what the call promises.
+fn loose(patterns: &Patterns, bank: &[Cell], cell: u16) -> Row<u16, 64>
+    ensures { (S : Sig) → Asked S bank.now cell 64 (replicate 64 0) → LooseGeneralizations (in_tree patterns.now) bank.now cell (items result) }
 {
-    let mut items = [0; 64];
+    let mut list = [0; 64];
     let mut found = Count { len: 0 };
     patterns
         .tree
         .inner()
-        .retrieve_loose(bank, cell, &mut items, &mut found);
-    Numbers {
-        items,
-        len: found.len,
-    }
+        .retrieve_loose(bank, cell, &mut list, &mut found);
+    Row::front(list, found.len)
 }
 
-fn exact(patterns: &Patterns, bank: &[Cell], cell: u16) -> Numbers
-    ensures { (S : Sig) → Asked S bank.now cell 64 (replicate 64 0) → Generalizations (in_tree patterns.now) bank.now cell (numbers_of result) }
+fn exact(patterns: &Patterns, bank: &[Cell], cell: u16) -> Row<u16, 64>
+    ensures { (S : Sig) → Asked S bank.now cell 64 (replicate 64 0) → Generalizations (in_tree patterns.now) bank.now cell (items result) }
 {
-    let mut items = [0; 64];
-    let mut found = Count { len: 0 };
+    let mut list = [0; 64];
+    let mut kept = Count { len: 0 };
     patterns
         .tree
-        .retrieve_exact(bank, cell, &mut items, &mut found);
-    Numbers {
-        items,
-        len: found.len,
-    }
+        .retrieve_exact(bank, cell, &mut list, &mut kept);
+    Row::front(list, kept.len)
 }

@@ -2,11 +2,10 @@
 // when each is tried.
 #![tactic(auto)]
 
-ghost use Rattle.std.specs.Prelude.{◌≤◌};
-
 use discrimination_tree::DiscriminationTree;
 use filter::Filter;
 use plain_list::PlainList;
+use row::Row;
 
 pub mod ask;
 pub mod gather;
@@ -23,16 +22,9 @@ pub struct Patterns {
 
 // At most as many numbers as the tree has room for.
 #[derive(Clone, Copy)]
-pub struct Numbers {
-    items: [u16; 64],
-    len: usize,
-    ghost within: { len ≤ 64 },
-}
-
-#[derive(Clone, Copy)]
 pub struct Offer {
-    pub offered: Numbers,
-    pub kept: Numbers,
+    pub offered: Row<u16, 64>,
+    pub kept: Row<u16, 64>,
     // Whether the plain list gives the numbers that are kept.
     pub agrees: bool,
 }

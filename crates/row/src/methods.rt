@@ -28,6 +28,16 @@ impl<T: Copy, const N: usize> Row<T, N> {
         Some(Row { cells, len })
     }
 
+    // The first `len` of the cells, or all where there are fewer.
+    pub fn front(cells: [T; N], len: usize) -> Row<T, N>
+        ensures { items result ≡ take len cells }
+    {
+        Row {
+            cells,
+            len: len.min(N),
+        }
+    }
+
     pub fn as_slice(&self) -> &[T]
         ensures is { result.now ≡ items self.now }
         ensures within { length result.now ≤ N }
