@@ -30,20 +30,16 @@ up b = row_of b.upper
 abbrev pub low : Sides → List Node
 low b = row_of b.lower
 
--- the pair of places i and j stands at 32 i + j: those from k on are seen
-abbrev pub Seen : Sides → List Compared → ℕ → Type 0
-Seen b seen k = (i j : ℕ) → i < b.upper.len → j < b.lower.len → k ≤ 32 * i + j → Says (slice_index_or seen (32 * i + j) Neither) (at (up b) i) (at (low b) j)
+-- what is seen of the pair of the places i and j
+abbrev pub seen_at : Sides → ℕ → ℕ → Compared
+seen_at b i j = slice_index_or b.seen (32 * i + j) Neither
 
--- the pair of i and j is seen
-pub record Known (b : Sides) (seen : List Compared) (i j : ℕ) : Type 0 where
-  pub in_upper : i < b.upper.len
-  pub in_lower : j < b.lower.len
-  pub room : length seen ≡ 1024
-  pub says : Says (slice_index_or seen (32 * i + j) Neither) (at (up b) i) (at (low b) j)
+-- the pairs from that at k on are seen
+abbrev pub Seen : Sides → ℕ → Type 0
+Seen b k = (i j : ℕ) → i < length (up b) → j < length (low b) → k ≤ 32 * i + j → Says (seen_at b i j) (at (up b) i) (at (low b) j)
 
 -- all pairs after that of p and q are seen
-pub record Ready (b : Sides) (seen : List Compared) (p q : ℕ) : Type 0 where
-  pub in_upper : p < b.upper.len
-  pub in_lower : q < b.lower.len
-  pub room : length seen ≡ 1024
-  pub later : Seen b seen (32 * p + q + 1)
+pub record Ready (b : Sides) (p q : ℕ) : Type 0 where
+  pub in_upper : p < length (up b)
+  pub in_lower : q < length (low b)
+  pub later : Seen b (32 * p + q + 1)

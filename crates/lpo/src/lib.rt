@@ -11,7 +11,6 @@ use crate::sides::Sides;
 use order::ReductionOrder;
 use over::are_over;
 use signature::signature::Signature;
-use subterms::Subterms;
 use terms::pattern::Pattern;
 
 mod sides;
@@ -25,13 +24,6 @@ impl ReductionOrder for LexicographicPath {
     ghost reduces = { λ o g. within (sig_of g) lpo_lawful };
 
     fn is_above(&self, signature: &Signature, s: &Pattern, t: &Pattern) -> bool {
-        if !are_over(signature, s, t) {
-            return false;
-        }
-        let sides = Sides {
-            upper: Subterms::new(s),
-            lower: Subterms::new(t),
-        };
-        sides.is_above()
+        are_over(signature, s, t) && Sides::new(s, t).is_above()
     }
 }

@@ -1,5 +1,5 @@
 -- What the walk over a pattern's nodes keeps, and what it comes to.
-use Rattle.std.proofs.Common.{◌≡◌, ℕ, zero, suc, ◌+◌, ◌-◌, ◌<◌, ◌≤◌, true, List, [], ◌∷◌, length, get_or, replicate, Some, None, Option, unwrap_or, sym, refl, ap, ◌∙◌, subst, inl, inr, arith}
+use Rattle.std.proofs.Common.{◌≡◌, ℕ, zero, suc, ◌+◌, ◌<◌, ◌≤◌, true, List, [], ◌∷◌, length, get_or, replicate, Some, None, Option, unwrap_or, sym, refl, ap, ◌∙◌, subst, inl, inr, arith}
 use Rattle.std.proofs.lemmas.List.{drop_all}
 use Rattle.terms.specs.Term.{Term, Terms, var, nil, ◌▹◌, width}
 use Rattle.terms.specs.Sig.{Sig}
@@ -19,7 +19,7 @@ use Rattle.bank.specs.Means.{Means, none, and}
 use Rattle.bank.specs.Bindings.{Binds}
 use Rattle.bank.proofs.Readings.{reads}
 use Rattle.matching.specs.Matched.{Bound, Matched}
-use Rattle.matching.specs.Solving.{Inside, Onward, Met, pending}
+use Rattle.matching.specs.Solving.{Inside, Onward, Met}
 use Rattle.matching.proofs.Turns.{none_some, parts, onward_same, onward_trans}
 
 abbrev pub unbound : List (Option ℕ)
@@ -30,21 +30,19 @@ unbound_none zero x = refl
 unbound_none (suc n) zero = refl
 unbound_none (suc n) (suc x) = unbound_none n x
 
--- before node i, with the bindings θ and the stack
-pub record Going (b : List Cell) (p : Pattern) (cell : ℕ) (θ : List (Option ℕ)) (stack : List ℕ) (depth i : ℕ) : Type 0 where
+-- before node i, with the bindings θ and the cells js
+pub record Going (b : List Cell) (p : Pattern) (cell : ℕ) (θ : List (Option ℕ)) (js : List ℕ) (i : ℕ) : Type 0 where
   pub slots : length θ ≡ 16
-  pub room : length stack ≡ 32
-  pub tall : width (from (nodes_of p) i) ≡ depth
-  pub onward : Onward b unbound (term_of p ▹ nil) (cell ∷ []) θ (from (nodes_of p) i) (pending stack depth)
+  pub tall : width (from (nodes_of p) i) ≡ length js
+  pub onward : Onward b unbound (term_of p ▹ nil) (cell ∷ []) θ (from (nodes_of p) i) js
 
-pub start : (b : List Cell) (p : Pattern) (cell : ℕ) (stack : List ℕ) → length stack ≡ 32 → pending stack 1 ≡ cell ∷ [] → Going b p cell unbound stack 1 0
-start b p cell stack room e =
+pub start : (b : List Cell) (p : Pattern) (cell : ℕ) (js : List ℕ) → js ≡ cell ∷ [] → Going b p cell unbound js 0
+start b p cell js e =
     let t : term_of p ▹ nil ≡ from (nodes_of p) 0 = sym (from_whole (nodes_of p) p.whole) in
     let P = λ (ts : Terms). λ (js : List ℕ). Onward b unbound (term_of p ▹ nil) (cell ∷ []) unbound ts js in
     record {
       slots = refl;
-      room = room;
-      tall = sym (ap width t);
+      tall = sym (ap width t) ∙ sym (ap length e);
       onward = subst (λ js. P (from (nodes_of p) 0) js) (sym e) (subst (λ ts. P ts (cell ∷ [])) t onward_same);
     }
 
@@ -56,33 +54,26 @@ front_width (App f a) ps qs e =
     let r = width_rest a ps (read_wide f a ps qs e) in
     (omega arith, omega arith)
 
-module _ {b : List Cell} {p : Pattern} {cell : ℕ} {θ : List (Option ℕ)} {stack : List ℕ} {depth i : ℕ} (g : Going b p cell θ stack depth i) where
+module _ {b : List Cell} {p : Pattern} {cell : ℕ} {θ : List (Option ℕ)} {js : List ℕ} {i : ℕ} (g : Going b p cell θ js i) where
   module _ (n : Node) (l : i < length (nodes_of p)) (is : get_or (nodes_of p) i (Var 0) ≡ n) where
     front : in_front n (Some (from (nodes_of p) (i + 1))) ≡ Some (from (nodes_of p) i)
     front = step (nodes_of p) p.whole i n l is
 
-    pub some_left : 0 < depth
-    some_left = omega (arith, (front_width n _ _ front).0, g.tall)
-
-    pub deep : depth ≤ 32
-    deep = omega (arith, g.tall, width_from (nodes_of p) p.whole i, pattern_short p)
-
-    pub fits : depth - 1 + arguments n ≤ 32
+    pub fits : length js + arguments n ≤ 33
     fits = omega (arith, (front_width n _ _ front).0, (front_width n _ _ front).1, g.tall, width_from (nodes_of p) p.whole (i + 1), pattern_short p)
 
     pub small_node : small n ≡ true
     small_node = ap small (sym is) ∙ small_at (nodes_of p) i p.within l
 
-    pub again : (θ' : List (Option ℕ)) (stack' : List ℕ) (d : ℕ) → length θ' ≡ length θ → length stack' ≡ length stack → Met b n θ stack depth θ' stack' (Some d) → Going b p cell θ' stack' d (i + 1)
-    again θ' stack' d sθ st m = record {
+    pub again : (θ' : List (Option ℕ)) (js' : List ℕ) (u : Unit {0}) → length θ' ≡ length θ → Met b n θ js θ' js' (Some u) → Going b p cell θ' js' (i + 1)
+    again θ' js' u sθ m = record {
       slots = sθ ∙ g.slots;
-      room = st ∙ g.room;
       tall = omega (arith, m.0, (front_width n _ _ front).1, g.tall);
       onward = onward_trans g.onward (m.1 (from (nodes_of p) (i + 1)) (from (nodes_of p) i) front);
     }
 
-    pub ended : (θ' : List (Option ℕ)) (stack' : List ℕ) → Met b n θ stack depth θ' stack' None → Matched b p cell None
-    ended θ' stack' m S rules within inst =
+    pub ended : (θ' : List (Option ℕ)) (js' : List ℕ) → Met b n θ js θ' js' None → Matched b p cell None
+    ended θ' js' m S rules within inst =
         let none-bound : (x k : ℕ) → get_or unbound x None ≡ Some k → Means b k (inst.inst x) = λ x k e. absurd (none_some (sym (unbound_none 16 x) ∙ e)) in
         m (from (nodes_of p) (i + 1)) (from (nodes_of p) i) front S inst.inst rules
         (g.onward.on S inst.inst rules record { bound = none-bound; means = and inst.means none })
@@ -112,10 +103,14 @@ bound S b t cell θ rules o =
       covers = λ x occ. elim (o.covers x (inl occ)) [ inl h ↦ h | inr z ↦ absurd z ];
     }
 
-pub finished : {b : List Cell} {p : Pattern} {cell : ℕ} {θ : List (Option ℕ)} {stack : List ℕ} {depth i : ℕ} → Going b p cell θ stack depth i → length (nodes_of p) ≤ i → Matched b p cell (Some θ)
-finished {b = b} {p = p} {cell = cell} {θ = θ} {stack = stack} {depth = depth} {i = i} g past =
+empty : (js : List ℕ) → length js ≡ 0 → js ≡ []
+empty [] e = refl
+empty (j ∷ js) e = absurd (omega arith)
+
+pub finished : {b : List Cell} {p : Pattern} {cell : ℕ} {θ : List (Option ℕ)} {js : List ℕ} {i : ℕ} → Going b p cell θ js i → length (nodes_of p) ≤ i → Matched b p cell (Some θ)
+finished {b = b} {p = p} {cell = cell} {θ = θ} {js = js} {i = i} g past =
     let all : from (nodes_of p) i ≡ nil = ap (λ ns. unwrap_or (row ns) nil) (drop_all i (nodes_of p) past) in
-    let zero_left : depth ≡ 0 = sym g.tall ∙ ap width all in
+    let left : js ≡ [] = empty js (sym g.tall ∙ ap width all) in
     let P = λ (ts : Terms). λ (js : List ℕ). Onward b unbound (term_of p ▹ nil) (cell ∷ []) θ ts js in
-    let o = subst (λ d. P nil (pending stack d)) zero_left (subst (λ ts. P ts (pending stack depth)) all g.onward) in
+    let o = subst (P nil) left (subst (λ ts. P ts js) all g.onward) in
     (g.slots, λ S rules within. bound S b (term_of p) cell θ rules o)

@@ -1,11 +1,10 @@
 -- What one node does to the solutions.
-use Rattle.std.proofs.Common.{◌≡◌, ℕ, zero, suc, ◌+◌, ◌-◌, ◌<◌, ◌≤◌, true, false, ◌⊎◌, List, [], ◌∷◌, ◌++◌, length, get_or, take, set, is_some, Some, None, Option, sym, refl, ap, ◌∙◌, subst, inl, inr, arith}
-use Rattle.std.proofs.lemmas.List.{length-take-le, get_or-set_same, get_or-set_other}
-use Rattle.std.proofs.lemmas.Bool.{cases_eq}
-use Rattle.lent_list.proofs.Stacks.{peel}
+use Rattle.std.proofs.Common.{◌≡◌, ℕ, zero, suc, ltb, ◌<◌, ◌≤◌, true, ◌⊎◌, List, [], ◌∷◌, ◌++◌, length, get_or, reverse, take, set, is_some, Some, None, Option, sym, refl, ap, ◌∙◌, subst, inl, inr, arith}
+use Rattle.std.proofs.lemmas.List.{length-append, length-take-le, reverse-append, reverse-reverse, get_or-set_same, get_or-set_other}
+use Rattle.std.proofs.lemmas.Bool.{cases_eq, ltb-true, and_parts}
 use Rattle.terms.specs.Term.{Term, Terms, var, app, nil, ◌▹◌, width, subs, Occs}
 use Rattle.terms.specs.Sig.{Sig}
-use Rattle.terms.specs.Preorder.{in_front}
+use Rattle.terms.specs.Preorder.{in_front, small}
 use Rattle.terms.specs.declared.pattern.Node.{Node}
 use Rattle.terms.specs.declared.pattern.Node.TheVariants as node
 use Rattle.subterms.specs.Places.{arguments}
@@ -15,7 +14,9 @@ use Rattle.bank.specs.declared.cell.Cell.TheVariants.{Var, App}
 use Rattle.bank.specs.Rules.{Rules}
 use Rattle.bank.specs.Means.{Means, MeansAll, is_app, none, and}
 use Rattle.bank.proofs.Readings.{node as fits, means_within, same, tall, open_app}
-use Rattle.matching.specs.Solving.{Has, Onward, Never, Placed, Opened, Met, pending}
+use Rattle.matching.specs.Solving.{Has, Onward, Never, Placed, Met, pending}
+use Rattle.row.specs.Items.{items}
+use Rattle.row.specs.declared.Row.{Row}
 
 pub none_some : {X : Type 0} {x : X} → None ≡ Some x → ⊥
 none_some e = let z : ◌≡◌ {A = ℕ} 0 1 = cc in omega arith
@@ -82,15 +83,15 @@ module _ (b : List Cell) (θ : List (Option ℕ)) (j : ℕ) (js : List ℕ) wher
   var_never : (x k : ℕ) (ps : Terms) → get_or θ x None ≡ Some k → (k ≡ j → ⊥) → Never b θ (var x ▹ ps) (j ∷ js)
   var_never x k ps e n S σ rules s = n (same S b rules (σ x) (s.bound x k e) (parts s.means).0)
 
-  placed : (x : ℕ) (ps qs : Terms) (θ' : List (Option ℕ)) → j < length b → x < length θ → Placed θ x j θ' true → in_front (node.Var x) (Some ps) ≡ Some qs → Onward b θ qs (j ∷ js) θ' ps js
-  placed x ps qs θ' l lx p e =
+  placed : (x : ℕ) (ps qs : Terms) (θ' : List (Option ℕ)) (u : Unit {0}) → j < length b → x < length θ → Placed θ x j θ' (Some u) → in_front (node.Var x) (Some ps) ≡ Some qs → Onward b θ qs (j ∷ js) θ' ps js
+  placed x ps qs θ' u l lx p e =
       let q = read_var x ps qs e in
       elim p [
         | inl w ↦ subst (λ z. Onward b θ z (j ∷ js) θ' ps js) (sym q) (subst (λ z. Onward b θ (var x ▹ ps) (j ∷ js) z ps js) (sym w.1) (var_bound x ps w.0))
         | inr w ↦ subst (λ z. Onward b θ z (j ∷ js) θ' ps js) (sym q) (subst (λ z. Onward b θ (var x ▹ ps) (j ∷ js) z ps js) (sym w.1) (var_free x ps l lx w.0))
       ]
 
-  not_placed : (x : ℕ) (ps qs : Terms) (θ' : List (Option ℕ)) → Placed θ x j θ' false → in_front (node.Var x) (Some ps) ≡ Some qs → Never b θ qs (j ∷ js)
+  not_placed : (x : ℕ) (ps qs : Terms) (θ' : List (Option ℕ)) → Placed θ x j θ' None → in_front (node.Var x) (Some ps) ≡ Some qs → Never b θ qs (j ∷ js)
   not_placed x ps qs θ' p e = subst (λ z. Never b θ z (j ∷ js)) (sym (read_var x ps qs e)) (var_never x p.0 ps p.1 p.2)
 
   out : (t : Term) (ts : Terms) → length b ≤ j → Never b θ (t ▹ ts) (j ∷ js)
@@ -160,32 +161,39 @@ module _ (b : List Cell) (θ : List (Option ℕ)) (j : ℕ) (js : List ℕ) (f a
   not_opened not = subst (λ z. Never b θ z (j ∷ js)) (sym (read_app f a ps qs e)) (λ S σ rules s.
       clash S (subs σ (first a ps)) rules (same_width σ (first a ps) ∙ width_first a ps wide) not (parts s.means).0)
 
--- the same of the stack, whose top is the next cell
-module _ (b : List Cell) (θ θ' : List (Option ℕ)) (st st' : List ℕ) (d : ℕ) (some : 0 < d) (deep : d ≤ length st) where
-  abbrev top : ℕ
-  top = get_or st (d - 1) 0
+-- the next cell is taken
+pub taken : (old new : Row ℕ 32) (j : ℕ) → items old ≡ items new ++ j ∷ [] → pending old ≡ j ∷ pending new
+taken old new j e = ap reverse e ∙ reverse-append (items new) (j ∷ [])
 
-  peeled : pending st d ≡ top ∷ pending st (d - 1)
-  peeled = peel st d 0 some deep
+-- the arguments come in its place, the first of them next
+pub put : (old new : Row ℕ 32) (m a : ℕ) (args : List ℕ) → m ≡ a → items new ≡ items old ++ reverse (take m args) → pending new ≡ take a args ++ pending old
+put old new m a args is e =
+    ap reverse e ∙ reverse-append (items old) (reverse (take m args)) ∙ ap (λ ys. ys ++ pending old) (reverse-reverse (take m args)) ∙ ap (λ (k : ℕ). take k args ++ pending old) is
 
-  pub met_outside : (n : Node) → length b ≤ top → Met b n θ st d θ' st' None
-  met_outside n g ps qs e = subst (Never b θ qs) (sym peeled) (outside b θ top (pending st (d - 1)) n ps qs g e)
+-- a pattern's symbols take at most four arguments
+pub few : (n : Node) (f a : ℕ) → n ≡ node.App f a → small n ≡ true → a ≤ 4
+few n f a is h = omega (arith, ltb-true a 5 (and_parts (ltb f 64) (ltb a 5) (sym (ap small is) ∙ h)).1)
 
-  pub met_var : (n : Node) (x : ℕ) → n ≡ node.Var x → top < length b → x < length θ → Placed θ x top θ' true → Met b n θ st d θ' st (Some (d - 1))
-  met_var n x is l lx p = (
-    omega (arith, ap arguments is),
-    λ ps qs e. subst (λ js. Onward b θ qs js θ' ps (pending st (d - 1))) (sym peeled) (placed b θ top (pending st (d - 1)) x ps qs θ' l lx p (ap (λ m. in_front m (Some ps)) (sym is) ∙ e)),
+-- the same of the pending cells, of which j is the next
+module _ (b : List Cell) (θ θ' : List (Option ℕ)) (js ks : List ℕ) (j : ℕ) (peeled : js ≡ j ∷ ks) where
+  pub met_outside : (js' : List ℕ) (n : Node) → length b ≤ j → Met b n θ js θ' js' None
+  met_outside js' n g ps qs e = subst (Never b θ qs) (sym peeled) (outside b θ j ks n ps qs g e)
+
+  pub met_var : (n : Node) (x : ℕ) (u : Unit {0}) → n ≡ node.Var x → j < length b → x < length θ → Placed θ x j θ' (Some u) → Met b n θ js θ' ks (Some u)
+  met_var n x u is l lx p = (
+    omega (arith, ap arguments is, ap length peeled),
+    λ ps qs e. subst (λ is. Onward b θ qs is θ' ps ks) (sym peeled) (placed b θ j ks x ps qs θ' u l lx p (ap (λ m. in_front m (Some ps)) (sym is) ∙ e)),
   )
 
-  pub met_other : (n : Node) (x : ℕ) → n ≡ node.Var x → Placed θ x top θ' false → Met b n θ st d θ' st' None
-  met_other n x is p ps qs e = subst (Never b θ qs) (sym peeled) (not_placed b θ top (pending st (d - 1)) x ps qs θ' p (ap (λ m. in_front m (Some ps)) (sym is) ∙ e))
+  pub met_other : (js' : List ℕ) (n : Node) (x : ℕ) → n ≡ node.Var x → Placed θ x j θ' None → Met b n θ js θ' js' None
+  met_other js' n x is p ps qs e = subst (Never b θ qs) (sym peeled) (not_placed b θ j ks x ps qs θ' p (ap (λ m. in_front m (Some ps)) (sym is) ∙ e))
 
-  pub met_app : (n : Node) (f a : ℕ) (args : List ℕ) → n ≡ node.App f a → top < length b → Opened b top f a (Some args) → pending st' (d - 1 + a) ≡ take a args ++ pending st (d - 1) → Met b n θ st d θ st' (Some (d - 1 + a))
-  met_app n f a args is l q w = (
-    omega (arith, ap arguments is),
-    λ ps qs e. subst (λ js. Onward b θ qs (pending st d) θ ps js) (sym w)
-        (subst (λ js. Onward b θ qs js θ ps (take a args ++ pending st (d - 1))) (sym peeled) (opened b θ top (pending st (d - 1)) f a ps qs (ap (λ m. in_front m (Some ps)) (sym is) ∙ e) args l q)),
+  pub met_app : (js' : List ℕ) (n : Node) (f a : ℕ) (args : List ℕ) (u : Unit {0}) → n ≡ node.App f a → j < length b → get_or b j (Var 0) ≡ App f a args → length (take a args) ≡ a → js' ≡ take a args ++ ks → Met b n θ js θ js' (Some u)
+  met_app js' n f a args u is l q long w = (
+    omega (arith, ap arguments is, ap length peeled, simp length-append at (ap length w), long),
+    λ ps qs e. subst (λ is. Onward b θ qs js θ ps is) (sym w)
+        (subst (λ is. Onward b θ qs is θ ps (take a args ++ ks)) (sym peeled) (opened b θ j ks f a ps qs (ap (λ m. in_front m (Some ps)) (sym is) ∙ e) args l q)),
   )
 
-  pub met_unlike : (n : Node) (f a : ℕ) → n ≡ node.App f a → Opened b top f a None → Met b n θ st d θ' st' None
-  met_unlike n f a is q ps qs e = subst (Never b θ qs) (sym peeled) (not_opened b θ top (pending st (d - 1)) f a ps qs (ap (λ m. in_front m (Some ps)) (sym is) ∙ e) q)
+  pub met_unlike : (js' : List ℕ) (n : Node) (f a : ℕ) → n ≡ node.App f a → ((args : List ℕ) → get_or b j (Var 0) ≡ App f a args → ⊥) → Met b n θ js θ' js' None
+  met_unlike js' n f a is q ps qs e = subst (Never b θ qs) (sym peeled) (not_opened b θ j ks f a ps qs (ap (λ m. in_front m (Some ps)) (sym is) ∙ e) q)

@@ -1,14 +1,15 @@
 -- Terms that have still to meet cells, under the bindings so far.
-use Rattle.std.specs.Prelude.{◌≡◌, ℕ, ◌+◌, ◌<◌, Bool, true, false, ◌⊎◌, List, reverse, length, take, is_some, Some, None, Option, ◌≢◌, slice_index_or, slice_set}
+use Rattle.std.specs.Prelude.{◌≡◌, ℕ, ◌+◌, ◌<◌, true, ◌⊎◌, List, reverse, length, is_some, Some, None, Option, ◌≢◌, slice_index_or, slice_set}
 use Rattle.terms.specs.Term.{Term, Terms, Occs, subs}
 use Rattle.terms.specs.Sig.{Sig}
 use Rattle.terms.specs.Preorder.{in_front}
 use Rattle.terms.specs.declared.pattern.Node.{Node}
 use Rattle.subterms.specs.Places.{arguments}
 use Rattle.bank.specs.declared.cell.Cell.{Cell}
-use Rattle.bank.specs.declared.cell.Cell.TheVariants.{Var, App}
 use Rattle.bank.specs.Rules.{Rules}
 use Rattle.bank.specs.Means.{Means, MeansAll}
+use Rattle.row.specs.Items.{items}
+use Rattle.row.specs.declared.Row.{Row}
 
 -- under σ the bound variables are the terms of their cells, and the terms ps are those of the cells js
 pub record Solves (b : List Cell) (θ : List (Option ℕ)) (ps : Terms) (js : List ℕ) (σ : ℕ → Term) : Type 0 where
@@ -33,22 +34,17 @@ abbrev pub Never : List Cell → List (Option ℕ) → Terms → List ℕ → Ty
 Never b θ ps js = (S : Sig) (σ : ℕ → Term) → Rules S b → Solves b θ ps js σ → ⊥
 
 -- the cells to be met, the next one first
-abbrev pub pending : List ℕ → ℕ → List ℕ
-pending stack depth = reverse (take depth stack)
+abbrev pub pending : Row ℕ 32 → List ℕ
+pending r = reverse (items r)
 
--- a node in front of the terms ps meets the next cell
-abbrev pub Met : List Cell → Node → List (Option ℕ) → List ℕ → ℕ → List (Option ℕ) → List ℕ → Option ℕ → Type 0
-Met b n θ stack depth θ' stack' None = (ps qs : Terms) → in_front n (Some ps) ≡ Some qs → Never b θ qs (pending stack depth)
-Met b n θ stack depth θ' stack' (Some d) =
-    (d + 1 ≡ depth + arguments n)
-    × ((ps qs : Terms) → in_front n (Some ps) ≡ Some qs → Onward b θ qs (pending stack depth) θ' ps (pending stack' d))
+-- a node in front of the terms ps meets the next of the cells
+abbrev pub Met : List Cell → Node → List (Option ℕ) → List ℕ → List (Option ℕ) → List ℕ → Option (Unit {0}) → Type 0
+Met b n θ js θ' js' None = (ps qs : Terms) → in_front n (Some ps) ≡ Some qs → Never b θ qs js
+Met b n θ js θ' js' (Some _) =
+    (length js' + 1 ≡ length js + arguments n)
+    × ((ps qs : Terms) → in_front n (Some ps) ≡ Some qs → Onward b θ qs js θ' ps js')
 
 -- a variable is bound to the cell, unless it is bound to another
-abbrev pub Placed : List (Option ℕ) → ℕ → ℕ → List (Option ℕ) → Bool → Type 0
-Placed θ x j θ' true = ((slice_index_or θ x None ≡ Some j) × (θ' ≡ θ)) ⊎ ((slice_index_or θ x None ≡ None) × (θ' ≡ slice_set θ x (Some j)))
-Placed θ x j θ' false = (k : ℕ) × (slice_index_or θ x None ≡ Some k) × (k ≢ j)
-
--- the arguments of cell j, if that has the symbol f with the arity a
-abbrev pub Opened : List Cell → ℕ → ℕ → ℕ → Option (List ℕ) → Type 0
-Opened b j f a None = (args : List ℕ) → slice_index_or b j (Var 0) ≢ App f a args
-Opened b j f a (Some args) = slice_index_or b j (Var 0) ≡ App f a args
+abbrev pub Placed : List (Option ℕ) → ℕ → ℕ → List (Option ℕ) → Option (Unit {0}) → Type 0
+Placed θ x j θ' (Some _) = ((slice_index_or θ x None ≡ Some j) × (θ' ≡ θ)) ⊎ ((slice_index_or θ x None ≡ None) × (θ' ≡ slice_set θ x (Some j)))
+Placed θ x j θ' None = (k : ℕ) × (slice_index_or θ x None ≡ Some k) × (k ≢ j)

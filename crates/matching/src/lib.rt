@@ -10,6 +10,7 @@ ghost use Rattle.matching.specs.Matched.{Matched};
 
 use bank::cell::Cell;
 use meet::meet;
+use row::Row;
 use terms::pattern::Pattern;
 
 mod meet;
@@ -21,12 +22,10 @@ mod tests;
 pub fn match_cell(pattern: &Pattern, bank: &[Cell], cell: u16) -> Option<[Option<u16>; 16]>
     ensures { Matched bank.now pattern.now cell result }
 {
-    let nodes = pattern.nodes();
     let mut bindings = [None; 16];
-    let mut pending = [cell; 32];
-    let mut depth = 1;
-    for node in nodes {
-        depth = meet(*node, bank, &mut pending, depth, &mut bindings)?;
+    let mut pending = Row::from_slice(&[cell], cell)?;
+    for node in pattern.nodes() {
+        meet(*node, bank, &mut pending, &mut bindings)?;
     }
     Some(bindings)
 }

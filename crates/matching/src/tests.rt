@@ -49,10 +49,7 @@ fn bound(nodes: &[Node], cell: u16) -> Option<(Option<u16>, Option<u16>)> {
 }
 
 fn fits(nodes: &[Node], cell: u16) -> bool {
-    match Pattern::new(nodes) {
-        Some(pattern) => is_instance(&pattern, &cells(), cell),
-        None => false,
-    }
+    Pattern::new(nodes).is_some_and(|pattern| is_instance(&pattern, &cells(), cell))
 }
 
 #[test]

@@ -14,7 +14,7 @@ static RING: &[u8] = b"z\t0\t1\ne\t0\t1\np\t2\t1\nm\t2\t1\ni\t1\t1\n";
 static HEAVY: &[u8] = b"z\t0\t3\ng\t1\t2\nf\t1\t5\nh\t1\t5\n";
 
 fn node(signature: &Signature, letter: u8) -> Option<Node> {
-    if letter >= b'X' && letter <= b'Z' {
+    if let b'X'..=b'Z' = letter {
         return Some(Node::Var(letter - b'X'));
     }
     let symbol = signature.find(&[letter])?;
@@ -24,15 +24,11 @@ fn node(signature: &Signature, letter: u8) -> Option<Node> {
 
 // A term in Polish notation: X, Y and Z are variables, other letters symbols.
 fn pattern(signature: &Signature, text: &[u8]) -> Option<Pattern> {
-    let len = text.len();
-    if len > 32 {
-        return None;
-    }
     let mut nodes = [Node::Var(0); 32];
-    for (i, letter) in text.iter().enumerate() {
-        nodes[i] = node(signature, *letter)?;
+    for (place, letter) in nodes.iter_mut().zip(text) {
+        *place = node(signature, *letter)?;
     }
-    Pattern::new(&nodes[..len])
+    Pattern::new(nodes.get(..text.len())?)
 }
 
 // '>' where s is above t, '<' where t is above s, '?' where neither is.
@@ -46,9 +42,7 @@ fn turned<O: ReductionOrder>(order: &O, signature: &Signature, s: &Pattern, t: &
 
 // How Knuth-Bendix, the path order and size turn two terms.
 fn answers(signature: &[u8], s: &[u8], t: &[u8]) -> Option<[u8; 3]> {
-    let Ok(g) = Signature::read(signature) else {
-        return None;
-    };
+    let g = Signature::read(signature).ok()?;
     let s = pattern(&g, s)?;
     let t = pattern(&g, t)?;
     Some([
@@ -94,12 +88,8 @@ fn deep_terms(rt: HostRuntime) {
 
 // Terms of one signature, asked about under another: a symbol too many, and another arity.
 fn foreign_answer(s: &[u8]) -> Option<u8> {
-    let Ok(ring) = Signature::read(RING) else {
-        return None;
-    };
-    let Ok(numbers) = Signature::read(NUMBERS) else {
-        return None;
-    };
+    let ring = Signature::read(RING).ok()?;
+    let numbers = Signature::read(NUMBERS).ok()?;
     let s = pattern(&ring, s)?;
     let t = pattern(&ring, b"X")?;
     Some(turned(&LexicographicPath, &numbers, &s, &t))

@@ -1,44 +1,47 @@
 // All pairs of subterms, the later ones first: an argument stands behind its head.
 ghost use Rattle.std.specs.Prelude.{◌≡◌, ◌+◌, ◌*◌, ◌<◌, length, Decides};
+ghost use Rattle.terms.specs.Patterns.{nodes_of};
 ghost use Rattle.rewriting.specs.Lpo.{Lpo};
 ghost use Rattle.subterms.specs.Places.{at};
 ghost use Rattle.lpo.specs.Seen.{Seen, up, low};
 
 use super::{Compared, Sides};
+use subterms::Subterms;
+use terms::pattern::Pattern;
 
 impl Sides {
-    pub fn is_above(&self) -> bool
-        ensures { Decides result (Lpo (at (up self.now) 0) (at (low self.now) 0)) }
+    pub fn new(s: &Pattern, t: &Pattern) -> Sides
+        ensures upper { up result ≡ nodes_of s.now }
+        ensures lower { low result ≡ nodes_of t.now }
+        ensures seen { Seen result 0 }
     {
-        let mut seen = [Compared::Neither; 1024];
-        self.fill(&mut seen);
-        match self.pair(&seen, 0, 0) {
-            Compared::Above => true,
-            Compared::Equal => false,
-            Compared::Neither => false,
+        let mut sides = Sides {
+            upper: Subterms::new(s),
+            lower: Subterms::new(t),
+            seen: [Compared::Neither; 1024],
+        };
+        for p in (0..s.len()).rev() {
+            sides.fill_row(p);
         }
-    }
-
-    fn fill(&self, seen: &mut [Compared])
-        requires { length seen.old ≡ 1024 }
-        ensures { Seen self.now seen.new 0 }
-    {
-        let mut p = self.upper.len;
-        while p > 0 {
-            p -= 1;
-            self.fill_row(seen, p);
-        }
+        sides
     }
 
     // The pairs of the upper term's place p.
-    fn fill_row(&self, seen: &mut [Compared], p: usize)
-        requires { (length seen.old ≡ 1024) × ((p < self.now.upper.len) × (Seen self.now seen.old (32 * p + 32))) }
-        ensures { Seen self.now seen.new (32 * p) }
+    fn fill_row(&mut self, p: usize)
+        requires { (p < length (up self.old)) × (Seen self.old (32 * p + 32)) }
+        ensures upper { self.new.upper ≡ self.old.upper }
+        ensures lower { self.new.lower ≡ self.old.lower }
+        ensures seen { Seen self.new (32 * p) }
     {
-        let mut q = self.lower.len;
-        while q > 0 {
-            q -= 1;
-            seen[32 * p + q] = self.compare(seen, p, q);
+        for q in (0..self.lower.nodes().len()).rev() {
+            self.seen[32 * p + q] = self.compare(p, q);
         }
+    }
+
+    pub fn is_above(&self) -> bool
+        requires { Seen self.now 0 }
+        ensures { Decides result (Lpo (at (up self.now) 0) (at (low self.now) 0)) }
+    {
+        self.pair(0, 0) == Compared::Above
     }
 }

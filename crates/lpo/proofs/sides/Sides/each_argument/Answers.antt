@@ -1,55 +1,28 @@
-use Rattle.std.proofs.Common.{◌≡◌, ℕ, sym, refl, subst, arith}
+use Rattle.std.proofs.Common.{◌≡◌, ◌<◌, Bool, true, false, List, length, MatchBool, Decides, get_or, ℕ, refl, arith, rules}
+use Rattle.std.specs.List.{HoldsAt, AllWithin}
 use Rattle.std.proofs.lemmas.Bool.{false≢true}
-use Rattle.rewriting.specs.Lpo.{Lpo, LpoAll}
-use Rattle.rewriting.proofs.LpoCases.{irreflexive, all_more, all_has, all_rest}
-use Rattle.subterms.specs.Places.{from, at}
-use Rattle.subterms.proofs.Preorders.{first}
-use Rattle.subterms.proofs.Tables.{args_are, next_arg, some_left, end_past}
-use Rattle.lpo.specs.Seen.{up, low}
-use Rattle.lpo.proofs.Reading.{known}
+use Rattle.std.proofs.lemmas.Iterator.{cases_from_all}
+use Rattle.std.proofs.lemmas.Iterator.Consumers.{YieldsList-from_first}
+use Rattle.rewriting.specs.Lpo.{LpoAll}
+use Rattle.rewriting.specs.Replace.{args}
+use Rattle.subterms.specs.Places.{at}
+use Rattle.subterms.specs.Rows.{places, ArgumentsAt}
+use Rattle.lpo.specs.Seen.{seen_at, Ready, Says, up, low}
+use Rattle.lpo.specs.declared.sides.Compared.TheVariants.{Above}
+use Rattle.lpo.specs.declared.sides.Sides.{Sides}
+use Rattle.lpo.proofs.Lists.{told_above, above_told, all_at, each_at}
 use Rattle.lpo.proofs.sides.Sides.each_argument.Goals as goal
 
-pub loop-left-init : goal.loop-left-init
-loop-left-init c =
-    let t = args_are c.args.self.now.lower c.args.q c.requires.in_lower c.arity-left.result (sym c.arity-left.ensures) in
-    (omega arith, t.1, λ h. rw (← t.0) h, λ h. rw t.0 h)
+module _ (b : Sides) (p q : ℕ) (ready : Ready b p q) (js : List ℕ) (a : ArgumentsAt (low b) q js) where
+  says : (k : ℕ) → k < length js → Says (seen_at b p (get_or js k 0)) (at (up b) p) (at (low b) (get_or js k 0))
+  says k l = let h = a.behind k 0 l in ready.later p (get_or js k 0) ready.in_upper h.1 (omega (arith, h.0))
 
-pub pair-requires : goal.pair-requires
-pair-requires c =
-    let b = c.args.self.now in
-    let inside = some_left b.lower c.loop-left.j c.loop-left.left c.loop-left-test.true c.loop-left.invariant.1 in
-    known b c.args.seen.now c.args.p c.args.q c.args.p c.loop-left.j c.requires c.requires.in_upper inside (omega (arith, c.loop-left.invariant.0))
-
-pub returns-in-Equal : goal.returns-in-Equal
-returns-in-Equal c =
-    let b = c.args.self.now in
-    let n = next_arg b.lower c.loop-left.j c.loop-left.left c.loop-left-test.true c.loop-left.invariant.1 in
-    let t = at (low b) c.loop-left.j in
-    (λ e. absurd (false≢true e), λ h. absurd (irreflexive t (subst (λ u. Lpo u t) c.in-Equal.ensures (all_has _ _ _ _ n.0 (c.loop-left.invariant.2 h)))))
-
-pub returns-in-Neither : goal.returns-in-Neither
-returns-in-Neither c =
-    let b = c.args.self.now in
-    let n = next_arg b.lower c.loop-left.j c.loop-left.left c.loop-left-test.true c.loop-left.invariant.1 in
-    (λ e. absurd (false≢true e), λ h. absurd (c.in-Neither.ensures.0 (all_has _ _ _ _ n.0 (c.loop-left.invariant.2 h))))
-
-pub offset_bounds-self-j : goal.offset_bounds-self-j
-offset_bounds-self-j c = omega (arith, some_left c.args.self.now.lower c.loop-left.j c.loop-left.left c.loop-left-test.true c.loop-left.invariant.1, c.args.self.now.lower.short)
-
-pub bounds-self-j : goal.bounds-self-j
-bounds-self-j c = omega (arith, some_left c.args.self.now.lower c.loop-left.j c.loop-left.left c.loop-left-test.true c.loop-left.invariant.1, c.args.self.now.lower.short)
-
-pub loop-left-preserved : goal.loop-left-preserved
-loop-left-preserved c =
-    let t = c.args.self.now.lower in
-    let j = c.loop-left.j in
-    let inside = some_left t j c.loop-left.left c.loop-left-test.true c.loop-left.invariant.1 in
-    let n = next_arg t j c.loop-left.left c.loop-left-test.true c.loop-left.invariant.1 in
-    (omega (arith, end_past t j inside, c.loop-left.invariant.0), n.1, λ h. all_rest _ _ _ _ n.0 (c.loop-left.invariant.2 h), λ h. c.loop-left.invariant.3 (all_more _ _ _ _ n.0 c.in-Above.ensures h))
+  found : (r : Bool) → MatchBool r (AllWithin (λ j. seen_at b p j ≡ Above) js 0 (length js)) ((k : ℕ) × (k < length js) × HoldsAt (λ j. seen_at b p j ≡ Above → ⊥) js k) → Decides r (LpoAll (at (up b) p) (args (at (low b) q)))
+  found true h = (λ _. rw (← a.terms) (all_at (low b) _ js (λ k l. told_above _ _ _ (says k l) (h k 0 (omega arith) l))), λ _. refl)
+  found false h = (λ e. absurd (false≢true e), λ l. absurd (h.2 0 (above_told _ _ _ (says h.0 h.1) (each_at (low b) _ js (rw a.terms l) h.0 h.1))))
 
 pub returns : goal.returns
 returns c =
-    let none : c.loop-left.left ≡ 0 = omega (arith, c.loop-left-test.false) in
-    let F = from (low c.args.self.now) c.loop-left.j in
-    let s = at (up c.args.self.now) c.args.p in
-    (λ _. c.loop-left.invariant.3 (subst (λ (k : ℕ). LpoAll s (first k F)) (sym none) LpoAll.none), λ _. refl)
+    let b = c.args.self.now in
+    let js = places c.arguments.result in
+    found b c.args.p c.args.q c.requires js c.arguments.ensures _ (cases_from_all c.all.new.self _ _ (λ j. seen_at b c.args.p j ≡ Above) (λ j. seen_at b c.args.p j ≡ Above → ⊥) c.all.ensures.ran (YieldsList-from_first (λ x. x) places js refl) (λ x f k. search rules) (λ x f k. search rules))

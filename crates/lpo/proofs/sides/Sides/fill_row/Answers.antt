@@ -1,15 +1,30 @@
-use Rattle.std.proofs.Common.{◌-◌, ◌∙◌, arith}
-use Rattle.std.proofs.lemmas.List.{length-set}
+use Rattle.std.proofs.Common.{◌-◌, refl, ap, length, arith}
+use Rattle.subterms.specs.Rows.{row_of}
+use Rattle.subterms.specs.declared.Subterms.{Subterms}
+use Rattle.subterms.proofs.Patterns.{pattern_short}
+use Rattle.lpo.specs.Seen.{Ready}
 use Rattle.lpo.proofs.Reading.{seen_more}
 use Rattle.lpo.proofs.sides.Sides.fill_row.Goals as goal
+use Rattle.lpo.proofs.sides.Sides.fill_row.Goals.{In-loop-q}
+
+pub loop-q-init : goal.loop-q-init
+loop-q-init c = (refl, refl, λ i j hi hj l. c.requires.1 i j hi hj (omega (arith, l, hj, ap length c.nodes-q.ensures, pattern_short c.args.self.now.lower.pattern)))
+
+-- all later pairs are seen
+ready : (c : In-loop-q) → Ready c.loop-q.self c.args.p (c.loop-q.q - 1)
+ready c =
+    let inv = c.loop-q.invariant in
+    record {
+      in_upper = omega (arith, c.requires.0, ap (λ (s : Subterms). length (row_of s)) inv.0);
+      in_lower = omega (arith, c.loop-q-test.true, c.loop-q.auto.q, ap length c.nodes-q.ensures, ap (λ (s : Subterms). length (row_of s)) inv.1);
+      later = λ i j hi hj l. inv.2 i j hi hj (omega (arith, l, c.loop-q-test.true));
+    }
+
+pub compare-requires : goal.compare-requires
+compare-requires c = ready c
 
 pub loop-q-preserved : goal.loop-q-preserved
 loop-q-preserved c =
-    let b = c.args.self.now in
-    let p = c.args.p in
-    let q = c.loop-q.q - 1 in
-    let inv = c.loop-q.invariant in (
-      length-set c.loop-q.seen _ _ ∙ inv.0,
-      omega (arith, inv.1),
-      seen_more b c.loop-q.seen p q c.compare.result c.requires.1.0 (omega (arith, inv.1, c.loop-q-test.true)) inv.0 (λ i j hi hj l. inv.2 i j hi hj (omega (arith, c.loop-q-test.true))) c.compare.ensures,
-    )
+    let r = ready (goal.at.loop-q-preserved c).In-loop-q in
+    let inv = c.loop-q.invariant in
+    (inv.0, inv.1, λ i j hi hj l. seen_more c.loop-q.self c.args.p (c.loop-q.q - 1) c.compare.result r.in_upper r.in_lower r.later c.compare.ensures i j hi hj l)

@@ -1,29 +1,14 @@
-use Rattle.std.proofs.Common.{refl, subst, arith, rules}
-use Rattle.std.proofs.lemmas.Bool.{false≢true}
-use Rattle.rewriting.specs.Lpo.{Lpo}
-use Rattle.rewriting.proofs.LpoCases.{irreflexive}
-use Rattle.subterms.specs.Places.{at}
+use Rattle.std.proofs.Common.{◌≡◌, Decides, arith, rules}
+use Rattle.std.proofs.lemmas.Bool.Decides.{Decides-like}
 use Rattle.subterms.proofs.Tables.{row_some}
-use Rattle.lpo.specs.Seen.{low}
+use Rattle.lpo.specs.Seen.{seen_at}
+use Rattle.lpo.specs.declared.sides.Compared.TheVariants.{Above}
+use Rattle.lpo.proofs.Lists.{told_above, above_told}
 use Rattle.lpo.proofs.sides.Sides.is_above.Goals as goal
 
-pub pair-requires : goal.pair-requires
-pair-requires c =
+pub returns : goal.returns
+returns c =
     let b = c.args.self.now in
-    record {
-      in_upper = row_some b.upper;
-      in_lower = row_some b.lower;
-      room = search rules;
-      says = c.fill.ensures 0 0 (row_some b.upper) (row_some b.lower) (omega arith);
-    }
-
-pub returns-in-Above : goal.returns-in-Above
-returns-in-Above c = (λ _. c.in-Above.ensures, λ _. refl)
-
-pub returns-in-Equal : goal.returns-in-Equal
-returns-in-Equal c =
-    let t = at (low c.args.self.now) 0 in
-    (λ e. absurd (false≢true e), λ h. absurd (irreflexive t (subst (λ u. Lpo u t) c.in-Equal.ensures h)))
-
-pub returns-in-Neither : goal.returns-in-Neither
-returns-in-Neither c = (λ e. absurd (false≢true e), λ h. absurd (c.in-Neither.ensures.0 h))
+    let says = c.requires 0 0 (row_some b.upper) (row_some b.lower) (omega arith) in
+    let d : Decides c.eq.result (seen_at b 0 0 ≡ Above) = search rules in
+    Decides-like _ (λ e. told_above _ _ _ says e) (λ h. above_told _ _ _ says h) d
