@@ -2,4 +2,4 @@ pub mod Rules
 pub mod Means
 pub mod Checked
 pub mod Bindings
-pub mod Equal
+pub mod Arguments

@@ -1,11 +1,11 @@
 // A cell of a bank: a variable, or a symbol with the cells of its arguments.
-ghost use Rattle.std.specs.Prelude.{◌≡◌, Decides};
-ghost use Rattle.bank.specs.Equal.{cell_eq, cell_eq_equiv, cell_eq_laws, cell_exact};
+ghost use Rattle.std.proofs.Common.{rules};
+ghost use Rattle.bank.specs.Arguments.{Arguments};
 
 use lent_list::Exact;
 
 // The slots of `args` past the arity are 0 in a bank that keeps its rules, so that equal cells are equal records.
-#[derive(Clone, Copy)]
+#[derive(Clone, Copy, PartialEq, Eq, Debug)]
 pub enum Cell {
     Var(u8),
     App {
@@ -15,41 +15,22 @@ pub enum Cell {
     },
 }
 
-impl PartialEq for Cell {
-    ghost eq = { cell_eq };
-
-    ghost laws = { cell_eq_laws };
-
-    fn eq(&self, other: &Cell) -> bool {
-        match (*self, *other) {
-            (Cell::Var(x), Cell::Var(y)) => x == y,
-            (
-                Cell::App {
-                    symbol: f,
-                    arity: m,
-                    args: a,
-                },
-                Cell::App {
-                    symbol: g,
-                    arity: n,
-                    args: b,
-                },
-            ) => f == g && m == n && same_args(a, b),
-            _ => false,
+impl Cell {
+    // The cells of the arguments, if this is that symbol with so many of them.
+    pub fn arguments(&self, symbol: u8, arity: u8) -> Option<[u16; 4]>
+        ensures { Arguments self.now symbol arity result }
+    {
+        match *self {
+            Cell::App {
+                symbol: f,
+                arity: a,
+                args,
+            } if f == symbol && a == arity => Some(args),
+            _ => None,
         }
     }
 }
 
-impl Eq for Cell {
-    ghost laws = { cell_eq_equiv };
-}
-
 impl Exact for Cell {
-    ghost exact = { cell_exact };
-}
-
-fn same_args(a: [u16; 4], b: [u16; 4]) -> bool
-    ensures { Decides result (a ≡ b) }
-{
-    a == b
+    ghost exact = { Prim.search rules };
 }

@@ -1,5 +1,5 @@
 // Whether cells and a count of any content are a bank that keeps its rules for a signature.
-ghost use Rattle.std.specs.Prelude.{◌<◌, length, Decides, slice_index_or};
+ghost use Rattle.std.specs.Prelude.{◌≤◌, length, Decides};
 ghost use Rattle.signature.specs.Signatures.{sig_of};
 ghost use Rattle.bank.specs.Rules.{Slot, Slots, Fitting, AllFitting, Earlier, AllApart};
 ghost use Rattle.bank.specs.Checked.{Checked};
@@ -29,12 +29,10 @@ pub fn keeps_rules(signature: &Signature, cells: &[Cell], count: &Count) -> Resu
 fn all_fitting(signature: &Signature, cells: &[Cell]) -> bool
     ensures { Decides result (AllFitting (sig_of signature.now) cells.now) }
 {
-    for i in 0..cells.len() {
-        if !is_fitting(signature, i, cells[i]) {
-            return false;
-        }
-    }
-    true
+    cells
+        .iter()
+        .enumerate()
+        .all(|(i, cell)| is_fitting(signature, i, *cell))
 }
 
 fn is_fitting(signature: &Signature, i: usize, cell: Cell) -> bool
@@ -47,7 +45,7 @@ fn is_fitting(signature: &Signature, i: usize, cell: Cell) -> bool
             arity,
             args,
         } => match signature.arity(symbol) {
-            Some(expected) => arity == expected && slots_fit(i, arity as usize, args),
+            Some(expected) => arity == expected && slots_fit(i, usize::from(arity), args),
             None => false,
         },
     }
@@ -56,12 +54,9 @@ fn is_fitting(signature: &Signature, i: usize, cell: Cell) -> bool
 fn slots_fit(i: usize, arity: usize, args: [u16; 4]) -> bool
     ensures { Decides result (Slots i arity args) }
 {
-    for k in 0..4 {
-        if !slot_fits(i, arity, k, args[k] as usize) {
-            return false;
-        }
-    }
-    true
+    args.iter()
+        .enumerate()
+        .all(|(k, arg)| slot_fits(i, arity, k, usize::from(*arg)))
 }
 
 fn slot_fits(i: usize, arity: usize, k: usize, value: usize) -> bool
@@ -73,22 +68,16 @@ fn slot_fits(i: usize, arity: usize, k: usize, value: usize) -> bool
 fn all_apart(cells: &[Cell]) -> bool
     ensures { Decides result (AllApart cells.now) }
 {
-    for j in 0..cells.len() {
-        if stands_earlier(cells, j) {
-            return false;
-        }
-    }
-    true
+    cells
+        .iter()
+        .enumerate()
+        .all(|(j, cell)| is_first(cells, j, *cell))
 }
 
-fn stands_earlier(cells: &[Cell], j: usize) -> bool
-    requires { j < length cells.now }
-    ensures { Decides result (Earlier cells.now j (slice_index_or cells.now j (Cell.Var 0))) }
+// Whether the cell stands nowhere below place j.
+fn is_first(cells: &[Cell], j: usize, cell: Cell) -> bool
+    requires { j ≤ length cells.now }
+    ensures { Decides result (Earlier cells.now j cell → ⊥) }
 {
-    for i in 0..j {
-        if cells[i] == cells[j] {
-            return true;
-        }
-    }
-    false
+    !cells[..j].contains(&cell)
 }

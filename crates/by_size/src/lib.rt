@@ -31,8 +31,5 @@ impl ReductionOrder for BySize {
 fn is_larger(s: &Pattern, t: &Pattern) -> bool
     ensures { Decides result (Larger (term_of s.now) (term_of t.now)) }
 {
-    if s.len() <= t.len() {
-        return false;
-    }
-    covers(s.nodes(), t.nodes())
+    s.len() > t.len() && covers(s.nodes(), t.nodes())
 }

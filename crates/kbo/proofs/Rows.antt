@@ -1,5 +1,7 @@
 -- What a row weighs, and what the term weighs that it is the preorder of.
-use Rattle.std.proofs.Common.{◌≡◌, ℕ, ◌+◌, ◌*◌, ◌≤◌, List, [], ◌∷◌, ◌++◌, length, refl, ap, ◌∙◌, ap₂, arith}
+use Rattle.std.proofs.Common.{◌≡◌, ℕ, ◌+◌, ◌*◌, ◌≤◌, List, [], ◌∷◌, ◌++◌, length, refl, sym, ap, ◌∙◌, ap₂, arith}
+use Rattle.std.specs.List.{sum_by}
+use Rattle.std.proofs.lemmas.List.Recursion.{is_sum_by}
 use Rattle.terms.specs.Term.{Term, Terms, var, app, nil, ◌▹◌}
 use Rattle.terms.specs.Preorder.{preorder, preorders}
 use Rattle.terms.specs.declared.pattern.Node.{Node}
@@ -8,6 +10,9 @@ use Rattle.rewriting.specs.Count.{weigh, weighs}
 use Rattle.kbo.specs.Weights.{node_weight, row_weight}
 
 module _ (w : ℕ → ℕ) where
+  pub weight_sum : (ns : List Node) → sum_by (node_weight w) ns ≡ row_weight w ns
+  weight_sum ns = sym (is_sum_by (row_weight w) (node_weight w) refl (λ _ _. refl) ns)
+
   weight_append : (ms ns : List Node) → row_weight w (ms ++ ns) ≡ row_weight w ms + row_weight w ns
   weight_append [] ns = omega arith
   weight_append (m ∷ ms) ns = let e = weight_append ms ns in omega arith

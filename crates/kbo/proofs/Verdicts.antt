@@ -1,5 +1,5 @@
 -- The heads of two terms of equal weights, read off their rows.
-use Rattle.std.proofs.Common.{◌≡◌, ℕ, ◌&&◌, eqb, ltb, get_or, sym, refl}
+use Rattle.std.proofs.Common.{◌≡◌, ℕ, ◌&&◌, eqb, ltb, get_or}
 use Rattle.std.proofs.lemmas.Bool.{ltb-true, ltb-false, eqb-true, eq-eqb, and_parts, and_from, both_ways, cond_both}
 use Rattle.terms.specs.Term.{Term, var, app, width}
 use Rattle.terms.specs.Preorder.{preorder}
@@ -18,22 +18,21 @@ module _ (w : ℕ → ℕ) where
   heads_say (app f ss) (app g ts) c e =
       cond_both (ltb g f) Above _ (λ v. Says w v (app f ss) (app g ts))
       (λ h. Kbo.by_head c e (ltb-true g f h))
-      (λ h. cond_both (eqb f g && eqb (width ss) (width ts)) (ByArguments (width ss)) NotAbove (λ v. Says w v (app f ss) (app g ts))
-      (λ k. let p = and_parts _ _ k in (c, e, (eqb-true f g p.0, refl, sym (eqb-true _ _ p.1))))
+      (λ h. cond_both (eqb f g && eqb (width ss) (width ts)) ByArguments NotAbove (λ v. Says w v (app f ss) (app g ts))
+      (λ k. let p = and_parts _ _ k in (c, e, (eqb-true f g p.0, eqb-true _ _ p.1)))
       (λ k. not_heads w f g ss ts e (ltb-false g f h) (λ p. both_ways _ k (and_from _ _ (eq-eqb f g p.0) (eq-eqb _ _ p.1)))))
 
-  module _ (a : ℕ) where
-    pub args_widths : (s t : Term) → SameHead a s t → (width (args s) ≡ a) × (width (args t) ≡ a)
-    args_widths (var x) t h = absurd h
-    args_widths (app f ss) (var y) h = absurd h
-    args_widths (app f ss) (app g ts) h = (h.1, h.2)
+  pub same_widths : (s t : Term) → SameHead s t → width (args s) ≡ width (args t)
+  same_widths (var x) t h = absurd h
+  same_widths (app f ss) (var y) h = absurd h
+  same_widths (app f ss) (app g ts) h = h.1
 
-    pub args_down : (s t : Term) → Says w (ByArguments a) s t → Kbo w s t → KboLex w (args s) (args t)
-    args_down (var x) t h k = absurd h.2
-    args_down (app f ss) (var y) h k = absurd h.2
-    args_down (app f ss) (app g ts) h k = arguments_down w f g ss ts h.2.0 h.1 k
+  pub args_down : (s t : Term) → Says w ByArguments s t → Kbo w s t → KboLex w (args s) (args t)
+  args_down (var x) t h k = absurd h.2
+  args_down (app f ss) (var y) h k = absurd h.2
+  args_down (app f ss) (app g ts) h k = arguments_down w f g ss ts h.2.0 h.1 k
 
-    pub args_up : (s t : Term) → Says w (ByArguments a) s t → KboLex w (args s) (args t) → Kbo w s t
-    args_up (var x) t h k = absurd h.2
-    args_up (app f ss) (var y) h k = absurd h.2
-    args_up (app f ss) (app g ts) h k = arguments_up w f g ss ts h.2.0 h.0 h.1 k
+  pub args_up : (s t : Term) → Says w ByArguments s t → KboLex w (args s) (args t) → Kbo w s t
+  args_up (var x) t h k = absurd h.2
+  args_up (app f ss) (var y) h k = absurd h.2
+  args_up (app f ss) (app g ts) h k = arguments_up w f g ss ts h.2.0 h.0 h.1 k

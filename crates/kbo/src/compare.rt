@@ -21,8 +21,8 @@ pub fn is_above(signature: &Signature, s: &Subterms, t: &Subterms) -> bool
         match judge(signature, s.subterm(p), t.subterm(q)) {
             Verdict::Above => return true,
             Verdict::NotAbove => return false,
-            Verdict::ByArguments(arity) => {
-                let Some((i, j)) = first_difference(s, p, t, q, arity) else {
+            Verdict::ByArguments => {
+                let Some((i, j)) = first_difference(s, p, t, q) else {
                     return false;
                 };
                 p = i;
@@ -33,26 +33,11 @@ pub fn is_above(signature: &Signature, s: &Subterms, t: &Subterms) -> bool
 }
 
 // The places of the first arguments that differ.
-fn first_difference(
-    s: &Subterms,
-    p: usize,
-    t: &Subterms,
-    q: usize,
-    arity: u8,
-) -> Option<(usize, usize)>
-    requires { (p < s.now.len) × ((q < t.now.len) × ((width (args (at (row_of s.now) p)) ≡ arity) × (width (args (at (row_of t.now) q)) ≡ arity))) }
+fn first_difference(s: &Subterms, p: usize, t: &Subterms, q: usize) -> Option<(usize, usize)>
+    requires { width (args (at (row_of s.now) p)) ≡ width (args (at (row_of t.now) q)) }
     ensures { MatchOption result ((w : ℕ → ℕ) → KboLex w (args (at (row_of s.now) p)) (args (at (row_of t.now) q)) → ⊥) (λ d. First s.now p t.now q d.0 d.1) }
 {
-    let mut i = p + 1;
-    let mut j = q + 1;
-    let mut left = arity;
-    while left > 0 {
-        if !s.same(i, t, j) {
-            return Some((i, j));
-        }
-        i = s.ends[i];
-        j = t.ends[j];
-        left -= 1;
-    }
-    None
+    s.arguments(p)
+        .zip(t.arguments(q))
+        .find(|(i, j)| !s.same(*i, t, *j))
 }

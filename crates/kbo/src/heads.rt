@@ -10,12 +10,12 @@ use signature::signature::Signature;
 use subterms::variables::covers;
 use terms::pattern::Node;
 
-#[derive(Clone, Copy)]
+#[derive(Clone, Copy, PartialEq, Eq, Debug)]
 pub enum Verdict {
     Above,
     NotAbove,
-    // Equal weights and heads: the first arguments that differ decide. With the number of arguments.
-    ByArguments(u8),
+    // Equal weights and heads: the first arguments that differ decide.
+    ByArguments,
 }
 
 pub fn judge(signature: &Signature, s: &[Node], t: &[Node]) -> Verdict
@@ -53,7 +53,7 @@ fn compare_heads(s: Node, t: Node) -> Verdict
             if g < f {
                 Verdict::Above
             } else if f == g && a == b {
-                Verdict::ByArguments(a)
+                Verdict::ByArguments
             } else {
                 Verdict::NotAbove
             }

@@ -11,11 +11,7 @@ pub fn weight(signature: &Signature, row: &[Node]) -> usize
     requires { length row.now ≤ 32 }
     ensures { result ≡ row_weight (sig_of signature.now).weight row.now }
 {
-    let mut sum = 0;
-    for node in row {
-        sum += weight_of(signature, *node);
-    }
-    sum
+    row.iter().map(|node| weight_of(signature, *node)).sum()
 }
 
 fn weight_of(signature: &Signature, node: Node) -> usize
@@ -23,9 +19,6 @@ fn weight_of(signature: &Signature, node: Node) -> usize
 {
     match node {
         Node::Var(_) => 1,
-        Node::App { symbol, arity: _ } => match signature.weight(symbol) {
-            Some(w) => w as usize,
-            None => 1,
-        },
+        Node::App { symbol, .. } => signature.weight(symbol).map_or(1, usize::from),
     }
 }

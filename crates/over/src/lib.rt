@@ -14,13 +14,10 @@ use terms::pattern::{Node, Pattern};
 pub fn is_over(signature: &Signature, pattern: &Pattern) -> bool
     ensures { Decides result (Over (sig_of signature.now) (term_of pattern.now)) }
 {
-    let nodes = pattern.nodes();
-    for node in nodes {
-        if !is_known(signature, *node) {
-            return false;
-        }
-    }
-    true
+    pattern
+        .nodes()
+        .iter()
+        .all(|node| is_known(signature, *node))
 }
 
 // Whether both patterns are over the signature.
@@ -35,9 +32,6 @@ fn is_known(signature: &Signature, node: Node) -> bool
 {
     match node {
         Node::Var(_) => true,
-        Node::App { symbol, arity } => match signature.arity(symbol) {
-            Some(a) => arity == a,
-            None => false,
-        },
+        Node::App { symbol, arity } => signature.arity(symbol) == Some(arity),
     }
 }

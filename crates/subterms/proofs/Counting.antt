@@ -1,7 +1,7 @@
 -- Counting the variables of a row, and of the term that it is the preorder of.
-use Rattle.std.proofs.Common.{◌≡◌, ℕ, ◌+◌, ◌<◌, ◌≤◌, Bool, true, List, [], ◌∷◌, ◌++◌, length, Decides, sym, refl, ap, ◌∙◌, ap₂, arith}
+use Rattle.std.proofs.Common.{◌≡◌, ℕ, ◌+◌, ◌<◌, ◌≤◌, Bool, true, false, eqb, filter, List, [], ◌∷◌, ◌++◌, length, Decides, sym, refl, ap, ◌∙◌, ap₂, arith}
 use native.Mathlib.Decide.{ℕ_discrete, dec_lt}
-use Rattle.std.proofs.lemmas.Bool.{and_parts, and_from, leb-true, le-leb}
+use Rattle.std.proofs.lemmas.Bool.{and_parts, and_from, leb-true, le-leb, eq-eqb, ne_eqb}
 use Rattle.std.proofs.lemmas.Bool.Decides.{Decides-like}
 use Rattle.terms.specs.Term.{Term, Terms, var, app, nil, ◌▹◌}
 use Rattle.terms.specs.Preorder.{preorder, preorders}
@@ -17,6 +17,20 @@ once x (Var y) = by (ℕ_discrete x y)
     by (yes e) = omega arith
     by (no h) = omega arith
 once x (App f a) = omega arith
+
+abbrev pub is_var : ℕ → Node → Bool
+is_var x (Var y) = eqb y x
+is_var x (App f a) = false
+
+-- how often the variable stands in the row, as a count of the nodes that are it
+pub occurring_filter : (x : ℕ) (ns : List Node) → length (filter (is_var x) ns) ≡ occurring x ns
+occurring_filter x [] = refl
+occurring_filter x (Var y ∷ ns) = by (ℕ_discrete x y) (occurring_filter x ns)
+  where
+    by : (d : Dec (x ≡ y)) → length (filter (is_var x) ns) ≡ occurring x ns → length (filter (is_var x) (Var y ∷ ns)) ≡ elim d as (λ _. ℕ) [ yes e ↦ 1 | no h ↦ 0 ] + occurring x ns
+    by (yes e) h = rw (eq-eqb y x (sym e)) (omega arith)
+    by (no n) h = rw (ne_eqb y x (λ e. n (sym e))) (omega arith)
+occurring_filter x (App f a ∷ ns) = let h = occurring_filter x ns in omega arith
 
 pub occurring_most : (x : ℕ) (ns : List Node) → occurring x ns ≤ length ns
 occurring_most x [] = omega arith

@@ -1,25 +1,29 @@
 // A pattern's subterms, each named by the place where its nodes begin, and where they end.
 #![tactic(auto)]
 
-ghost use Rattle.std.specs.Prelude.{◌≡◌, ℕ, ◌+◌, ◌<◌, ◌≤◌, length, take, slice_index};
+ghost use Rattle.std.specs.Prelude.{◌≡◌, ℕ, ◌+◌, ◌<◌, length, slice_index};
 ghost use Rattle.terms.specs.Term.{cells};
-ghost use Rattle.terms.specs.Preorder.{Whole};
+ghost use Rattle.terms.specs.Patterns.{nodes_of};
 ghost use Rattle.subterms.specs.Places.{at};
 
-use terms::pattern::Node;
+use terms::pattern::Pattern;
 
 mod methods;
+mod next;
 pub mod variables;
 
-// The nodes of a pattern in preorder; the subterm at place p ends before place ends[p].
+// The subterm at place p ends before place ends[p].
 #[derive(Clone, Copy)]
 pub struct Subterms {
-    pub nodes: [Node; 32],
-    pub ends: [usize; 32],
-    pub len: usize,
-    ghost room: { length nodes ≡ 32 },
-    ghost room_ends: { length ends ≡ 32 },
-    ghost short: { len ≤ 32 },
-    ghost whole: { Whole (take len nodes) },
-    ghost ended: { (k : ℕ) → k < len → slice_index ends k ≡ k + cells (at (take len nodes) k) },
+    pattern: Pattern,
+    ends: [usize; 32],
+    ghost ended: { (k : ℕ) → k < length (nodes_of pattern) → slice_index ends k ≡ k + cells (at (nodes_of pattern) k) },
+}
+
+// The places where the arguments of a subterm begin, from the first to the last: each begins where the one before it ends.
+#[derive(Clone, Copy, Drop)]
+pub struct Arguments<'a> {
+    ends: &'a [usize],
+    next: usize,
+    left: usize,
 }

@@ -4,9 +4,10 @@ ghost use Rattle.terms.specs.Preorder.{Whole, preorder};
 ghost use Rattle.terms.specs.Patterns.{nodes_of};
 ghost use Rattle.rewriting.specs.Replace.{args};
 ghost use Rattle.subterms.specs.Places.{at, arguments};
-ghost use Rattle.subterms.specs.Rows.{row_of};
+ghost use Rattle.subterms.specs.Rows.{row_of, places, ArgumentsAt};
 
-use super::Subterms;
+use super::{Arguments, Subterms};
+use std::array;
 use terms::pattern::{Node, Pattern};
 
 impl Subterms {
@@ -14,29 +15,30 @@ impl Subterms {
     pub fn new(pattern: &Pattern) -> Subterms
         ensures { row_of result ≡ nodes_of pattern.now }
     {
-        let row = pattern.nodes();
-        let mut nodes = [Node::Var(0); 32];
-        let mut ends = [0; 32];
-        for p in 0..row.len() {
-            nodes[p] = row[p];
-            ends[p] = end(row, p);
-        }
+        let nodes = pattern.nodes();
         Subterms {
-            nodes,
-            ends,
-            len: row.len(),
+            pattern: *pattern,
+            ends: array::from_fn(|p| end(nodes, p)),
         }
+    }
+
+    // The pattern's nodes in preorder.
+    pub fn nodes(&self) -> &[Node]
+        ensures { result.now ≡ row_of self.now }
+    {
+        self.pattern.nodes()
     }
 
     // The nodes of the subterm at place p, or none past the row.
     pub fn subterm(&self, p: usize) -> &[Node]
-        ensures there { p < self.now.len → result.now ≡ preorder (at (row_of self.now) p) }
-        ensures past { self.now.len ≤ p → result.now ≡ [] }
+        ensures there { p < length (row_of self.now) → result.now ≡ preorder (at (row_of self.now) p) }
+        ensures past { length (row_of self.now) ≤ p → result.now ≡ [] }
     {
-        if p < self.len {
-            &self.nodes[p..self.ends[p]]
+        let nodes = self.nodes();
+        if p < nodes.len() {
+            &nodes[p..self.ends[p]]
         } else {
-            &self.nodes[0..0]
+            &[]
         }
     }
 
@@ -44,36 +46,47 @@ impl Subterms {
     pub fn arity(&self, p: usize) -> usize
         ensures { result ≡ width (args (at (row_of self.now) p)) }
     {
-        if p < self.len {
-            arity(self.nodes[p])
-        } else {
-            0
+        match self.nodes().get(p) {
+            Some(node) => arity(*node),
+            None => 0,
+        }
+    }
+
+    // The places of the arguments of the subterm at place p.
+    pub fn arguments(&self, p: usize) -> Arguments<'_>
+        ensures { ArgumentsAt (row_of self.now) p (places result) }
+    {
+        Arguments {
+            ends: &self.ends,
+            next: p.saturating_add(1),
+            left: self.arity(p),
         }
     }
 
     // Whether the subterms at two places are equal.
     pub fn same(&self, p: usize, other: &Subterms, q: usize) -> bool
-        ensures { Decides result (p < self.now.len × q < other.now.len × (at (row_of self.now) p ≡ at (row_of other.now) q)) }
+        ensures { Decides result (p < length (row_of self.now) × q < length (row_of other.now) × (at (row_of self.now) p ≡ at (row_of other.now) q)) }
     {
-        if p >= self.len || q >= other.len {
+        if p >= self.nodes().len() || q >= other.nodes().len() {
             return false;
         }
-        are_equal(self.subterm(p), other.subterm(q))
+        self.subterm(p) == other.subterm(q)
     }
 }
 
-// Where the subterm at place p ends: so many terms are open until then.
+// Where the subterm at place p of the row ends: so many terms are open until then.
 fn end(row: &[Node], p: usize) -> usize
-    requires { (Whole row.now) × (p < length row.now) }
-    ensures { result ≡ p + cells (at row.now p) }
+    requires { Whole row.now }
+    ensures { p < length row.now → result ≡ p + cells (at row.now p) }
 {
     let mut open: usize = 1;
-    let mut i = p;
-    while open > 0 {
+    for i in p..row.len() {
+        if open == 0 {
+            return i;
+        }
         open = open - 1 + arity(row[i]);
-        i += 1;
     }
-    i
+    row.len()
 }
 
 fn arity(node: Node) -> usize
@@ -81,39 +94,6 @@ fn arity(node: Node) -> usize
 {
     match node {
         Node::Var(_) => 0,
-        Node::App { symbol: _, arity } => arity as usize,
-    }
-}
-
-fn are_equal(s: &[Node], t: &[Node]) -> bool
-    ensures { Decides result (s.now ≡ t.now) }
-{
-    if s.len() != t.len() {
-        return false;
-    }
-    for (i, node) in s.iter().enumerate() {
-        if !is_same(*node, t[i]) {
-            return false;
-        }
-    }
-    true
-}
-
-fn is_same(m: Node, n: Node) -> bool
-    ensures { Decides result (m ≡ n) }
-{
-    match (m, n) {
-        (Node::Var(x), Node::Var(y)) => x == y,
-        (
-            Node::App {
-                symbol: f,
-                arity: a,
-            },
-            Node::App {
-                symbol: g,
-                arity: b,
-            },
-        ) => f == g && a == b,
-        _ => false,
+        Node::App { arity, .. } => usize::from(arity),
     }
 }

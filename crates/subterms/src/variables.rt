@@ -1,6 +1,6 @@
 // How often variables stand in rows of nodes.
 ghost use Rattle.std.specs.Prelude.{◌≡◌, Decides};
-ghost use Rattle.subterms.specs.Variables.{occurs_in, occurring, covered, CoversRow};
+ghost use Rattle.subterms.specs.Variables.{occurring, covered, CoversRow};
 
 use terms::pattern::Node;
 
@@ -8,12 +8,7 @@ use terms::pattern::Node;
 pub fn covers(s: &[Node], t: &[Node]) -> bool
     ensures { Decides result (CoversRow s.now t.now) }
 {
-    for node in t {
-        if !is_covered(s, t, *node) {
-            return false;
-        }
-    }
-    true
+    t.iter().all(|node| is_covered(s, t, *node))
 }
 
 fn is_covered(s: &[Node], t: &[Node], node: Node) -> bool
@@ -21,31 +16,12 @@ fn is_covered(s: &[Node], t: &[Node], node: Node) -> bool
 {
     match node {
         Node::Var(x) => occurrences(t, x) <= occurrences(s, x),
-        Node::App {
-            symbol: _,
-            arity: _,
-        } => true,
+        Node::App { .. } => true,
     }
 }
 
 fn occurrences(row: &[Node], x: u8) -> usize
     ensures { result ≡ occurring x row.now }
 {
-    let mut n = 0;
-    for node in row {
-        n += one_if(*node, x);
-    }
-    n
-}
-
-fn one_if(node: Node, x: u8) -> usize
-    ensures { result ≡ occurs_in x node }
-{
-    match node {
-        Node::Var(y) => { if x == y { 1 } else { 0 } }
-        Node::App {
-            symbol: _,
-            arity: _,
-        } => 0,
-    }
+    row.iter().filter(|node| **node == Node::Var(x)).count()
 }

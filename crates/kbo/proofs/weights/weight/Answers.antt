@@ -1,21 +1,20 @@
-use Rattle.std.proofs.Common.{◌≡◌, ◌+◌, drop, arith}
-use Rattle.std.proofs.lemmas.List.{at_drop_more, at_drop_all}
-use Rattle.terms.specs.declared.pattern.Node.TheVariants.{Var}
+use Rattle.std.proofs.Common.{◌∙◌, arith, rules, tests}
+use Rattle.std.proofs.lemmas.Iterator.{YieldsList-from_slice, YieldsList-from_map}
+use Rattle.std.proofs.lemmas.Iterator.Consumers.{sum_by_from_yields_List, fits_by_from_yields_list}
 use Rattle.signature.specs.Signatures.{sig_of}
 use Rattle.signature.proofs.Symbols.{weight_within}
-use Rattle.kbo.specs.Weights.{row_weight}
-use Rattle.kbo.proofs.Rows.{row_most}
+use Rattle.kbo.specs.Weights.{node_weight}
+use Rattle.kbo.proofs.Rows.{row_most, weight_sum}
 use Rattle.kbo.proofs.weights.weight.Goals as goal
-use Rattle.kbo.proofs.weights.weight.Goals.{After-weight_of-sum}
 
-step : (c : After-weight_of-sum) → c.loop-node.sum + c.weight_of-sum.result + row_weight (sig_of c.args.signature.now).weight (drop (c.loop-node.node-index + 1) c.args.row.now) ≡ row_weight (sig_of c.args.signature.now).weight c.args.row.now
-step c = omega (arith, at_drop_more (row_weight (sig_of c.args.signature.now).weight) c.args.row.now c.loop-node.node-index (Var 0) (omega arith), c.weight_of-sum.ensures, c.loop-node.invariant)
-
-pub overflow_add-sum : goal.overflow_add-sum
-overflow_add-sum c = omega (arith, step c, row_most (sig_of c.args.signature.now).weight (weight_within c.args.signature.now) c.args.row.now, c.requires)
-
-pub loop-node-preserved : goal.loop-node-preserved
-loop-node-preserved c = step c
+pub sum-requires-clause-fits : goal.sum-requires-clause-fits
+sum-requires-clause-fits c =
+    let w = (sig_of c.args.signature.now).weight in
+    let ns = c.args.row.now in
+    fits_by_from_yields_list (node_weight w) ns _ _ (YieldsList-from_map _ (node_weight w) (YieldsList-from_slice ns cc) c.map.ensures.closure (λ x r q k. search (rules, tests))) (omega (arith, weight_sum w ns, row_most w (weight_within c.args.signature.now) ns, c.requires))
 
 pub returns : goal.returns
-returns c = omega (arith, c.loop-node.invariant, at_drop_all (row_weight (sig_of c.args.signature.now).weight) c.args.row.now c.loop-node.node-index (omega arith))
+returns c =
+    let w = (sig_of c.args.signature.now).weight in
+    let ns = c.args.row.now in
+    sum_by_from_yields_List (node_weight w) ns _ _ c.sum.ensures.ran (YieldsList-from_map _ (node_weight w) (YieldsList-from_slice ns cc) c.map.ensures.closure (λ x r q k. search (rules, tests))) ∙ weight_sum w ns

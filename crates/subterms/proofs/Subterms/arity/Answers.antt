@@ -1,14 +1,21 @@
 use Rattle.std.proofs.Common.{sym, ap, ◌∙◌}
-use Rattle.subterms.specs.Places.{arguments}
+use Rattle.std.proofs.lemmas.Bool.{ltb-true, ltb-false}
+use Rattle.std.proofs.lemmas.List.{get_or_default}
+use Rattle.terms.specs.Term.{width}
 use Rattle.terms.specs.declared.pattern.Node.TheVariants.{Var}
-use Rattle.subterms.proofs.Tables.{args_wide, args_none, node_is}
+use Rattle.subterms.specs.Places.{arguments}
+use Rattle.subterms.specs.Rows.{row_of}
+use Rattle.subterms.proofs.Tables.{args_wide, args_none}
 use Rattle.subterms.proofs.Subterms.arity.Goals as goal
 
-pub returns-then-p-self : goal.returns-then-p-self
-returns-then-p-self c =
+pub returns-in-Some : goal.returns-in-Some
+returns-in-Some c =
     let s = c.args.self.now in
-    let p = c.args.p in
-    c.arity.ensures ∙ ap arguments (node_is s p c.if-p-self.true (Var 0)) ∙ sym (args_wide s p c.if-p-self.true)
+    let found = rw c.nodes.ensures at c.in-Some.ensures.lookup in
+    let inside = ltb-true _ _ (sym found.0) in
+    c.arity.ensures ∙ ap arguments (found.1 ∙ get_or_default (row_of s) c.args.p c.in-Some.node.now (Var 0) inside) ∙ sym (args_wide s c.args.p inside)
 
-pub returns-else-p-self : goal.returns-else-p-self
-returns-else-p-self c = sym (args_none c.args.self.now c.args.p c.if-p-self.false)
+pub returns-in-None : goal.returns-in-None
+returns-in-None c =
+    let past = ltb-false _ _ (sym (rw c.nodes.ensures at c.in-None.ensures.lookup).0) in
+    sym (ap width (args_none c.args.self.now c.args.p past))

@@ -1,12 +1,9 @@
-use Rattle.std.proofs.Common.{arith}
+use Rattle.std.proofs.Common.{arith, ap, length}
 use Rattle.subterms.proofs.Tables.{end_most, part_is}
 use Rattle.subterms.proofs.Subterms.subterm.Goals as goal
 
 pub slice_bounds-result-end : goal.slice_bounds-result-end
-slice_bounds-result-end c = omega (arith, end_most c.args.self.now c.args.p c.if-p-self.true, c.args.self.now.short)
+slice_bounds-result-end c = let e = end_most c.args.self.now c.args.p (omega (arith, c.if-p-nodes.true, ap length c.nodes-nodes.ensures)) in omega (arith, e, ap length c.nodes-nodes.ensures)
 
-pub returns-then-p-self : goal.returns-then-p-self
-returns-then-p-self c = record {
-  there = λ h. part_is c.args.self.now c.args.p h;
-  past = λ h. absurd (omega (arith, c.if-p-self.true));
-}
+pub returns-then-p-nodes-clause-there : goal.returns-then-p-nodes-clause-there
+returns-then-p-nodes-clause-there c h = rw c.nodes-nodes.ensures (part_is c.args.self.now c.args.p h)
