@@ -1,5 +1,5 @@
 -- A text can be cut at a byte in one way only.
-use Rattle.std.proofs.Common.{◌≡◌, ℕ, ◌+◌, ◌-◌, ◌^◌, ◌<◌, List, [], ◌∷◌, ◌++◌, length, get_or, take, drop, decimal, sym, refl, ap, ◌∙◌, arith}
+use Rattle.std.proofs.Common.{◌≡◌, ℕ, ◌+◌, ◌-◌, ◌^◌, ◌<◌, List, [], ◌∷◌, ◌++◌, length, get_or, take, drop, decimal, sym, refl, ap, ◌∙◌, arith, length-take-le, get_or-take, ◌≢◌}
 use Rattle.std.specs.Int.{IsInRange}
 use Rattle.std.specs.Str.Parse.{AllDigits}
 use Rattle.std.proofs.lemmas.List.{drop_more, take_rest, take-append-drop}
@@ -8,10 +8,14 @@ use Rattle.std.proofs.lemmas.Str.Parse.{numerals_by_value, tells_digits, not_in_
 use Rattle.std.proofs.lemmas.Fmt.{digits_decimal}
 use Rattle.fields.specs.Cuts.{Without, Cut}
 
--- the list before the place i, what stands there, and the list after it
-pub cut_at : (text : List ℕ) (i c : ℕ) → i < length text → get_or text i 0 ≡ c → text ≡ take i text ++ (c ∷ take (length text - (i + 1)) (drop (i + 1) text))
-cut_at text i c h is =
-    sym (take-append-drop i text) ∙ ap (λ xs. take i text ++ xs) (drop_more text i 0 h ∙ ap (λ b. b ∷ drop (i + 1) text) is ∙ ap (λ xs. c ∷ xs) (sym (take_rest text (i + 1))))
+-- the first c stands at the place i
+pub cut_at : (c i : ℕ) (text : List ℕ) → i < length text → get_or text i 0 ≡ c → ((k : ℕ) → k < i → get_or text k 0 ≢ c) → Cut c text (take i text) (take (length text - (i + 1)) (drop (i + 1) text))
+cut_at c i text h is before =
+    let size : length (take i text) ≡ i = length-take-le i text (omega arith) in
+    record {
+      whole = sym (take-append-drop i text) ∙ ap (λ xs. take i text ++ xs) (drop_more text i 0 h ∙ ap (λ b. b ∷ drop (i + 1) text) is ∙ ap (λ xs. c ∷ xs) (sym (take_rest text (i + 1))));
+      first = All-from_get_or _ (take i text) 0 (λ k h e. let low : k < i = omega (arith, size) in before k low (sym (get_or-take i text k 0 low) ∙ e));
+    }
 
 cut_once : (c : ℕ) (p q x y : List ℕ) → Without c p → Without c q → p ++ (c ∷ x) ≡ q ++ (c ∷ y) → (p ≡ q) × (x ≡ y)
 cut_once c [] [] x y hp hq e = (refl, cc)

@@ -15,15 +15,11 @@ pub struct Field<'a> {
 pub fn cut<'a>(text: &'a [u8], end: u8) -> Option<Field<'a>>
     ensures { MatchOption result (Without end text.now) (λ f. Cut end text.now f.bytes.now f.after.now) }
 {
-    for (i, byte) in text.iter().enumerate() {
-        if *byte == end {
-            return Some(Field {
-                bytes: &text[..i],
-                after: &text[i + 1..],
-            });
-        }
-    }
-    None
+    let at = text.iter().position(|byte| *byte == end)?;
+    Some(Field {
+        bytes: &text[..at],
+        after: &text[at + 1..],
+    })
 }
 
 // The number that the text writes, if it is at most `most`.
@@ -72,9 +68,7 @@ mod tests {
 
     #[test]
     fn cuts(rt: HostRuntime) -> Result<(), Fail> {
-        let Some(field) = cut(b"a b c", b' ') else {
-            return Err(Fail::new("no space"));
-        };
+        let field = cut(b"a b c", b' ').ok_or("no space")?;
         assert!(rt; field.bytes == b"a".as_slice() && field.after == b"b c".as_slice());
         assert!(rt; cut(b"abc", b' ').is_none());
         Ok(())

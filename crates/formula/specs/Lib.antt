@@ -7,3 +7,4 @@ pub mod Roles
 pub mod Outcomes
 pub mod Stacks
 pub mod Laying
+pub mod Words

@@ -1,5 +1,5 @@
 -- Roles and signs.
-use Rattle.std.specs.Prelude.{ℕ, cond, List, [], ◌∷◌, codes}
+use Rattle.std.specs.Prelude.{ℕ, Bool, true, false, cond, List, [], ◌∷◌, codes}
 use Rattle.lexer.specs.Tokens.{Lexeme}
 use Rattle.lexer.specs.declared.token.Kind.{Kind}
 use Rattle.lexer.specs.declared.token.Kind.TheVariants.{Equal}
@@ -24,3 +24,19 @@ role_first (t ∷ ts) = role_named t.bytes
 abbrev pub sign_first : List Lexeme → Sign
 sign_first [] = sign.Unequal
 sign_first (t ∷ ts) = sign_of t.kind
+
+-- axioms and hypotheses with = are rules
+abbrev pub rule : Role → Sign → Bool
+rule Axiom sign.Equal = true
+rule Hypothesis sign.Equal = true
+rule NegatedConjecture sign.Equal = false
+rule Other sign.Equal = false
+rule r sign.Unequal = false
+
+-- negated conjectures with != are goals
+abbrev pub goal : Role → Sign → Bool
+goal Axiom sign.Unequal = false
+goal Hypothesis sign.Unequal = false
+goal NegatedConjecture sign.Unequal = true
+goal Other sign.Unequal = false
+goal r sign.Equal = false

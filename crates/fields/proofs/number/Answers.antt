@@ -1,7 +1,6 @@
-use Rattle.std.proofs.Common.{◌≡◌, ◌+◌, ◌-◌, ◌*◌, ◌<◌, true, ◌&&◌, length, get_or, drop, decimal, sym, ap, ◌∙◌, arith, rules}
+use Rattle.std.proofs.Common.{◌≡◌, ◌+◌, ◌-◌, ◌*◌, ◌<◌, true, length, get_or, drop, decimal, sym, ap, ◌∙◌, arith, rules}
 use mathlib.Core.Bool.{false≢true}
 use Rattle.std.specs.Str.{all_ascii_digits}
-use Rattle.std.specs.Char.{is_ascii_digit}
 use Rattle.std.proofs.lemmas.List.{drop_more, drop_all}
 use Rattle.std.proofs.lemmas.Bool.{and_left}
 use Rattle.std.proofs.lemmas.Fmt.{decimal-digits_value}
@@ -30,14 +29,6 @@ returns-then-n-most c n most is =
     let i = c.loop-digit.digit-index in
     let e = ap (value c.loop-digit.n) (drop_more t i 0 c.loop-digit-test.true) in
     omega (arith, e, c.loop-digit.invariant.1, value_is t n (omega arith) is, value_grows (10 * c.loop-digit.n + (get_or t i 0 - 48)) (drop (i + 1) t), c.if-n-most.true)
-
-pub loop-digit-preserved : goal.loop-digit-preserved
-loop-digit-preserved c =
-    let t = c.args.text.now in
-    let i = c.loop-digit.digit-index in
-    let e = drop_more t i 0 c.loop-digit-test.true in
-    let digit : (is_ascii_digit (get_or t i 0) && all_ascii_digits (drop (i + 1) t)) ≡ all_ascii_digits (drop (i + 1) t) = rw (sym c.if-not-is_ascii_digit.ensures.value) in
-    (c.if-n-most.false, sym (ap (value c.loop-digit.n) e) ∙ c.loop-digit.invariant.1, sym digit ∙ sym (ap all_ascii_digits e) ∙ c.loop-digit.invariant.2)
 
 pub returns : goal.returns
 returns c =
