@@ -36,29 +36,19 @@ pub fn apply<I: ExactIndex>(
 ) -> Option<Applied>
     ensures { Applies (I.Index.stored index.now) (map_of lowers.now) cells.old count.old.len root redex.cell redex.equation marks.now cells.new count.new.len result }
 {
-    let Ok(higher) = index.get(redex.equation) else {
-        return None;
-    };
-    let Ok(lower) = lowers.get(redex.equation) else {
-        return None;
-    };
+    let higher = index.get(redex.equation).ok()?;
+    let lower = lowers.get(redex.equation).ok()?;
     if count.len > cells.len() {
         return None;
     }
-    let Some(bindings) = match_cell(&higher, &cells[..count.len], redex.cell) else {
-        return None;
-    };
+    let bindings = match_cell(&higher, &cells[..count.len], redex.cell)?;
     let mut guard = TakeBack::over(count);
-    let Some(put_in) = guard.enter(&lower, &bindings, cells) else {
-        return None;
-    };
+    let put_in = guard.enter(&lower, &bindings, cells)?;
     let change = Change {
         replaced: redex.cell,
         put_in,
     };
-    let Some(after) = guard.rebuild(cells, root, change, marks) else {
-        return None;
-    };
+    let after = guard.rebuild(cells, root, change, marks)?;
     guard.commit();
     Some(Applied { put_in, after })
 }

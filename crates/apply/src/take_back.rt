@@ -1,5 +1,5 @@
 // A guard over the count of a bank: unless the step is committed, its end takes back every term entered since it began.
-ghost use Rattle.std.specs.Prelude.{◌≡◌, ◌≤◌, true, false, length, if◌then◌else◌};
+ghost use Rattle.std.specs.Prelude.{◌≡◌, ◌≤◌, length, Some, None, unwrap_or};
 ghost use Rattle.enter.specs.Machine.{Grew};
 ghost use Rattle.rebuild.specs.Rebuilds.{Rebuilds};
 ghost use Rattle.apply.specs.Enters.{Enters};
@@ -10,37 +10,29 @@ use lent_list::Count;
 use rebuild::{Change, rebuild};
 use terms::pattern::Pattern;
 
+// `start` is the count to go back to: none once the step is committed.
 pub struct TakeBack<'a> {
     count: &'a mut Count,
-    start: usize,
-    committed: bool,
+    start: Option<usize>,
 }
 
 impl Drop for TakeBack<'_> {
     fn drop(self)
-        ensures { self.exit.0.now.len ≡ (if self.entry.committed then self.entry.count.now.len else self.entry.start) }
+        ensures { self.exit.0.now.len ≡ unwrap_or self.entry.start self.entry.count.now.len }
     {
-        if !self.committed {
-            self.count.len = self.start;
+        if let Some(start) = self.start {
+            self.count.len = start;
         }
-        let TakeBack {
-            count: _,
-            start: _,
-            committed: _,
-        } = self;
+        let TakeBack { count: _, start: _ } = self;
     }
 }
 
 impl<'a> TakeBack<'a> {
     pub fn over(count: &'a mut Count) -> TakeBack<'a>
-        ensures { (result.count.ghost_name ≡ count.entry.ghost_name) × (result.count.now ≡ count.old) × (result.start ≡ count.old.len) × (result.committed ≡ false) }
+        ensures { (result.count.ghost_name ≡ count.entry.ghost_name) × (result.count.now ≡ count.old) × (result.start ≡ Some count.old.len) }
     {
-        let start = count.len;
-        TakeBack {
-            count,
-            start,
-            committed: false,
-        }
+        let start = Some(count.len);
+        TakeBack { count, start }
     }
 
     // The cell of the instance, or none where there is no room.
@@ -50,13 +42,10 @@ impl<'a> TakeBack<'a> {
         bindings: &[Option<u16>],
         cells: &mut [Cell],
     ) -> Option<u16>
-        ensures guard { (self.new.count.ghost_name ≡ self.old.count.ghost_name) × (self.new.start ≡ self.old.start) × (self.new.committed ≡ self.old.committed) }
+        ensures guard { (self.new.count.ghost_name ≡ self.old.count.ghost_name) × (self.new.start ≡ self.old.start) }
         ensures does { Enters pattern.now bindings.now cells.old self.old.count.now.len cells.new self.new.count.now.len result }
     {
-        match enter_instance(pattern, bindings, cells, &mut *self.count) {
-            Ok(cell) => Some(cell),
-            Err(_) => None,
-        }
+        enter_instance(pattern, bindings, cells, &mut *self.count).ok()
     }
 
     // The cell of the root's changed form, or none where there is no room.
@@ -67,7 +56,7 @@ impl<'a> TakeBack<'a> {
         change: Change,
         marks: &[bool],
     ) -> Option<u16>
-        ensures guard { (self.new.count.ghost_name ≡ self.old.count.ghost_name) × (self.new.start ≡ self.old.start) × (self.new.committed ≡ self.old.committed) }
+        ensures guard { (self.new.count.ghost_name ≡ self.old.count.ghost_name) × (self.new.start ≡ self.old.start) }
         ensures grew { self.old.count.now.len ≤ length cells.old → Grew cells.old self.old.count.now.len cells.new self.new.count.now.len }
         ensures does { Rebuilds cells.old self.old.count.now.len root change.replaced change.put_in marks.now 2048 cells.new self.new.count.now.len result }
     {
@@ -76,8 +65,8 @@ impl<'a> TakeBack<'a> {
     }
 
     pub fn commit(&mut self)
-        ensures { (self.new.count.ghost_name ≡ self.old.count.ghost_name) × (self.new.count.now ≡ self.old.count.now) × (self.new.committed ≡ true) }
+        ensures { (self.new.count.ghost_name ≡ self.old.count.ghost_name) × (self.new.count.now ≡ self.old.count.now) × (self.new.start ≡ None) }
     {
-        self.committed = true;
+        self.start = None;
     }
 }

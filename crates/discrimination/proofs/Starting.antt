@@ -39,24 +39,24 @@ pattern_rows (u ∷ ss) h s (inl e) =
 pattern_rows (u ∷ ss) h s (inr i) = pattern_rows ss (and_parts (fits_pattern (nodes_in u)) (are_patterns ss) h).1 s i
 
 module _ (T : Trie) where
-  pub whole : Part T.nodes T.root (tree_of T) 32 1
+  pub whole : Part T.nodes T.marks.root (tree_of T) 32 1
   whole =
       let w = holding.whole T in
       record { held = w.kept.held; within = omega (arith, w.kept.full, w.kept.within); trim = w.trim; rows = pattern_rows (strings_of T) w.patterns }
 
   module _ (p : Pending) (one : p.len ≡ 1) where
-    whole_for : Part T.nodes T.root (tree_of T) 32 p.len
-    whole_for = subst (Part T.nodes T.root (tree_of T) 32) (sym one) whole
+    whole_for : Part T.nodes T.marks.root (tree_of T) 32 p.len
+    whole_for = subst (Part T.nodes T.marks.root (tree_of T) 32) (sym one) whole
 
-    pub start_ready : (fs : List Frame) → fs ≡ laid T.root p ++ [] → Ready T.nodes 0 fs
+    pub start_ready : (fs : List Frame) → fs ≡ laid T.marks.root p ++ [] → Ready T.nodes 0 fs
     start_ready fs e =
-        subst (Ready T.nodes 0) (sym e) (ready_weaker T.nodes 0 32 (laid T.root p ++ []) (omega arith) (laid_ready T.nodes T.root p [] whole_for (omega arith)))
+        subst (Ready T.nodes 0) (sym e) (ready_weaker T.nodes 0 32 (laid T.marks.root p ++ []) (omega arith) (laid_ready T.nodes T.marks.root p [] whole_for (omega arith)))
 
-    pub start_total : (b : List Cell) (i : ℕ) (fs : List Frame) (ys : List ℕ) → cells_of p ≡ i ∷ [] → fs ≡ laid T.root p ++ []
+    pub start_total : (b : List Cell) (i : ℕ) (fs : List Frame) (ys : List ℕ) → cells_of p ≡ i ∷ [] → fs ≡ laid T.marks.root p ++ []
         → total b T.nodes fs ys 0 ≡ take (length ys) (scanned b (tree_of T) (i ∷ []))
     start_total b i fs ys c e =
         ap (λ gs. total b T.nodes gs ys 0) e
-        ∙ ap (take (length ys)) (laid_todo T.nodes b T.root p [] whole_for ∙ append-nil (scanned b (tree_of T) (cells_of p)) ∙ ap (scanned b (tree_of T)) c)
+        ∙ ap (take (length ys)) (laid_todo T.nodes b T.marks.root p [] whole_for ∙ append-nil (scanned b (tree_of T) (cells_of p)) ∙ ap (scanned b (tree_of T)) c)
 
 -- nothing is left to be found
 pub end_total : (b : List Cell) (T : Trie) (ys xs : List ℕ) (n : ℕ) → n ≤ length ys → total b T.nodes [] ys n ≡ xs → take n ys ≡ xs

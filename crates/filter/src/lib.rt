@@ -1,19 +1,21 @@
 // An exact index over any index: of its candidates it keeps those that generalize the cell's term.
 #![tactic(auto)]
 
-ghost use Rattle.std.specs.Prelude.{◌≡◌};
+ghost use Rattle.std.specs.Prelude.{◌≡◌, ◌<◌, length, Decides};
+ghost use Rattle.terms.specs.Sig.{Sig};
+ghost use Rattle.bank.specs.Rules.{Rules};
+ghost use Rattle.index.specs.Found.{Generalizes};
 
 use bank::cell::Cell;
-use choose::choose;
-use close_up::close_up;
 use index::exact::ExactIndex;
 use index::index::Index;
 use lent_list::Count;
+use matching::is_instance;
 use refusal::Refusal;
+use retain::retain;
 use terms::pattern::Pattern;
 
-mod choose;
-mod close_up;
+mod retain;
 
 #[derive(Clone, Copy, Drop)]
 pub struct Filter<I> {
@@ -73,12 +75,22 @@ impl<I: Index> Index for Filter<I> {
 }
 
 impl<I: Index> ExactIndex for Filter<I> {
-    // An index has at most 128 candidates.
     fn retrieve_exact(&self, bank: &[Cell], cell: u16, list: &mut [u16], found: &mut Count) {
         self.inner.retrieve(bank, cell, list, found);
-        let len = found.len.min(128);
-        let mut chosen = [false; 128];
-        choose(&self.inner, bank, cell, &list[..found.len], &mut chosen);
-        found.len = close_up(list, &chosen[..len]);
+        let index = &self.inner;
+        let fits = |number: u16| -> bool
+            ensures { (S : Sig) → Rules S bank.entry.now → cell < length bank.entry.now → Decides result (Generalizes (I.Index.stored index.entry.now) bank.entry.now cell number) }
+        { generalizes(index, bank, cell, number) };
+        retain(list, found, fits);
+    }
+}
+
+// Whether the pattern under the number generalizes the cell's term.
+fn generalizes<I: Index>(index: &I, bank: &[Cell], cell: u16, number: u16) -> bool
+    ensures { (S : Sig) → Rules S bank.now → cell < length bank.now → Decides result (Generalizes (I.Index.stored index.now) bank.now cell number) }
+{
+    match index.get(number) {
+        Ok(pattern) => is_instance(&pattern, bank, cell),
+        Err(_) => false,
     }
 }

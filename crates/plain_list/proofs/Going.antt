@@ -2,6 +2,7 @@
 use Rattle.std.proofs.Common.{◌≡◌, ℕ, ◌+◌, ◌<◌, ◌≤◌, Bool, true, false, cond, List, [], ◌∷◌, ◌++◌, length, get_or, take, set, Decides, sym, refl, ap, ◌∙◌, subst, inl, inr, arith}
 use Rattle.std.proofs.lemmas.List.{append-nil, length-set, map-append, length_push, length-map, get_or-map, get_or_append_left, get_or_push, take_more, take_more_set, take_all}
 use Rattle.std.proofs.lemmas.Bool.{cases_lt}
+use Rattle.lent_list.specs.Words.{Appended}
 use Rattle.lists.specs.Members.{Once}
 use Rattle.lists.specs.Chosen.{chosen_of}
 use Rattle.lists.proofs.Members.{in_at}
@@ -69,7 +70,7 @@ module _ {b : List Cell} {i : ℕ} {es : List Entry} {list : List ℕ} {len k : 
   abbrev Right : Bool → Type 0
   Right c = (S : Sig) → Rules S b → i < length b → Decides c (Instance b (term_of e.pattern) i)
 
-  pub takes : len < length list → Right true → Going b i es (set list len e.number) (len + 1) (k + 1)
+  takes : len < length list → Right true → Going b i es (set list len e.number) (len + 1) (k + 1)
   takes room right = record {
     few = omega (arith, g.few);
     within = omega (arith, length-set list len e.number);
@@ -89,12 +90,16 @@ module _ {b : List Cell} {i : ℕ} {es : List Entry} {list : List ℕ} {len k : 
   }
 
   -- there is room wherever the list is long enough
-  pub no_room : length list ≤ len → Going b i es list len (k + 1)
+  no_room : length list ≤ len → Going b i es list len (k + 1)
   no_room full = record {
     few = omega (arith, g.few);
     within = g.within;
     passed = λ S a. absurd (let z : ⊥ = omega (arith, a.room, g.few) in z);
   }
+
+  pub appends : (r : Bool) (ys : List ℕ) (m : ℕ) → Appended list len ys m e.number r → Right true → Going b i es ys m (k + 1) × (length ys ≡ length list)
+  appends true ys m h right = (rw (h.1, h.2) (takes h.0 right), ap length h.1 ∙ length-set list len e.number)
+  appends false ys m h right = (rw (h.1, h.2) (no_room h.0), ap length h.1)
 
 decided : (b : List Cell) (i : ℕ) (es : List Entry) (d : Entry) (j : ℕ) (r : Bool) → Once (numbers es) → j < length es → Decides r (Instance b (term_of (get_or es j d).pattern) i)
     → Decides r (Generalizes (lookup es) b i (get_or (numbers es) j 0))
@@ -114,11 +119,13 @@ generalized b i es ns once p =
     some_entry [] j l = absurd (let z : ⊥ = omega arith in z)
     some_entry (x ∷ xs) j l = x
 
-pub finished : {b : List Cell} {i : ℕ} {es : List Entry} {list : List ℕ} {len k : ℕ} → Going b i es list len k → length es ≤ k → (S : Sig) → Asked S b i (length es) list → Once (numbers es)
-    → Generalizations (lookup es) b i (take len list)
-finished {b = b} {i = i} {es = es} {list = list} {len = len} {k = k} g past S a once =
-    let p : Passed b i es (take len list) = subst (λ zs. Passed b i zs (take len list)) (take_all k es past) (g.passed S a) in
-    generalized b i es (take len list) once p
+-- the list as it was lent, as it is now, and as it is given back
+pub finished : {b : List Cell} {i : ℕ} {es : List Entry} {was list list' : List ℕ} {len len' k : ℕ} → Going b i es list len k → length list ≡ length was → length es ≤ k → list' ≡ list → len' ≡ len
+    → (S : Sig) → Asked S b i (length es) was → Once (numbers es) → Generalizations (lookup es) b i (take len' list')
+finished {b = b} {i = i} {es = es} {list = list} {len = len} {k = k} g long past e f S a once =
+    let asked : Asked S b i (length es) list = record { few = a.few; rules = a.rules; counted = a.counted; room = omega (arith, a.room) } in
+    let p : Passed b i es (take len list) = subst (λ zs. Passed b i zs (take len list)) (take_all k es past) (g.passed S asked) in
+    rw (e, f) (generalized b i es (take len list) once p)
 
 -- an index over the entries is asked about the cell
 pub answers : (s : Entries 128) (es : List Entry) (b : List Cell) (i len : ℕ) (list list' : List ℕ) → es ≡ entries_of s

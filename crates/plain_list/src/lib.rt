@@ -16,7 +16,7 @@ use entries::{Entries, Entry};
 use index::capacity::{Exactly, Limited};
 use index::exact::ExactIndex;
 use index::index::Index;
-use lent_list::Count;
+use lent_list::{Count, List};
 use matching::is_instance;
 use refusal::Refusal;
 use terms::pattern::Pattern;
@@ -70,27 +70,26 @@ impl Index for PlainList {
     }
 
     fn retrieve(&self, bank: &[Cell], cell: u16, list: &mut [u16], found: &mut Count) {
-        found.len = generalizing(self.entries.items(), bank, cell, list);
+        generalizing(self.entries.items(), bank, cell, list, found);
     }
 }
 
 impl ExactIndex for PlainList {
     fn retrieve_exact(&self, bank: &[Cell], cell: u16, list: &mut [u16], found: &mut Count) {
-        found.len = generalizing(self.entries.items(), bank, cell, list);
+        generalizing(self.entries.items(), bank, cell, list, found);
     }
 }
 
-// Puts the numbers whose patterns generalize the cell's term into the front of the list, and says how many they are.
-fn generalizing(entries: &[Entry], bank: &[Cell], cell: u16, list: &mut [u16]) -> usize
-    ensures within { result ≤ length list.new }
-    ensures finds { (S : Sig) → Asked S bank.now cell (length entries.now) list.old → Once (numbers entries.now) → Generalizations (lookup entries.now) bank.now cell (take result list.new) }
+// Puts the numbers whose patterns generalize the cell's term into the list.
+fn generalizing(entries: &[Entry], bank: &[Cell], cell: u16, list: &mut [u16], found: &mut Count)
+    ensures within { found.new.len ≤ length list.new }
+    ensures finds { (S : Sig) → Asked S bank.now cell (length entries.now) list.old → Once (numbers entries.now) → Generalizations (lookup entries.now) bank.now cell (take found.new.len list.new) }
 {
-    let mut len = 0;
+    found.len = 0;
+    let mut numbers = List::over(list, found);
     for entry in entries {
-        if len < list.len() && is_instance(&entry.pattern, bank, cell) {
-            list[len] = entry.number;
-            len += 1;
+        if is_instance(&entry.pattern, bank, cell) {
+            let _ = numbers.append(entry.number);
         }
     }
-    len
 }

@@ -1,5 +1,5 @@
 -- Marks for the cells of a term's subterms.
-use Rattle.std.specs.Prelude.{◌≡◌, ℕ, ◌<◌, ◌≤◌, Bool, true, false, ◌⊎◌, List, [], length, get_or, take, Decides, slice_index_or}
+use Rattle.std.specs.Prelude.{◌≡◌, ℕ, ◌<◌, ◌≤◌, Bool, true, false, ◌⊎◌, List, [], length, take, Decides, slice_index_or}
 use Rattle.lists.specs.Members.{In}
 use Rattle.terms.specs.Term.{Term}
 use Rattle.terms.specs.Sig.{Sig}
@@ -14,24 +14,15 @@ abbrev pub arguments : Cell → List ℕ
 arguments (Var x) = []
 arguments (App f a args) = take a args
 
+-- the marks of these cells are added
+pub record Joined (xs : List Bool) (js : List ℕ) (ys : List Bool) : Type 0 where
+  pub stay : (j : ℕ) → slice_index_or xs j false ≡ true → slice_index_or ys j false ≡ true
+  pub new : (j : ℕ) → In j js → j < length xs → slice_index_or ys j false ≡ true
+  pub only : (j : ℕ) → slice_index_or ys j false ≡ true → (slice_index_or xs j false ≡ true) ⊎ In j js
+
 -- the marks of a cell's arguments are added
-pub record Added (xs : List Bool) (c : Cell) (ys : List Bool) : Type 0 where
-  pub stay : (j : ℕ) → slice_index_or xs j false ≡ true → slice_index_or ys j false ≡ true
-  pub new : (j : ℕ) → In j (arguments c) → j < length xs → slice_index_or ys j false ≡ true
-  pub only : (j : ℕ) → slice_index_or ys j false ≡ true → (slice_index_or xs j false ≡ true) ⊎ In j (arguments c)
-
--- j stands in one of the first k slots, within the arity a
-pub record Slot (a : ℕ) (args : List ℕ) (k j : ℕ) : Type 0 where
-  pub at : ℕ
-  pub before : at < k
-  pub counted : at < a
-  pub reads : get_or args at 0 ≡ j
-
--- the marks of the first k slots are added
-pub record Adding (xs : List Bool) (a : ℕ) (args : List ℕ) (k : ℕ) (ys : List Bool) : Type 0 where
-  pub stay : (j : ℕ) → slice_index_or xs j false ≡ true → slice_index_or ys j false ≡ true
-  pub new : (j : ℕ) → Slot a args k j → j < length xs → slice_index_or ys j false ≡ true
-  pub only : (j : ℕ) → slice_index_or ys j false ≡ true → (slice_index_or xs j false ≡ true) ⊎ Slot a args k j
+abbrev pub Added : List Bool → Cell → List Bool → Type 0
+Added xs c ys = Joined xs (arguments c) ys
 
 -- in a bank that keeps its rules, where there are marks for all cells, a cell is marked exactly if it can be reached from the root, which is: if its term is a subterm of the root's
 pub record Marked (b : List Cell) (r : ℕ) (marks : List Bool) : Type 0 where

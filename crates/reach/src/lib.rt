@@ -2,7 +2,7 @@
 #![tactic(auto)]
 
 ghost use Rattle.std.specs.Prelude.{◌≡◌, ℕ, false, length, slice_index_or};
-ghost use Rattle.reach.specs.Marks.{Marked, Added, Adding};
+ghost use Rattle.reach.specs.Marks.{Marked, Added, Joined};
 
 use bank::cell::Cell;
 
@@ -28,33 +28,25 @@ pub fn mark_reached(bank: &[Cell], root: u16, marks: &mut [bool])
 pub fn clear(marks: &mut [bool])
     ensures { (j : ℕ) → slice_index_or marks.new j false ≡ false }
 {
-    for mark in marks.iter_mut() {
-        *mark = false;
-    }
+    marks.fill(false);
 }
 
 fn mark_arguments(marks: &mut [bool], cell: Cell)
     ensures { Added marks.old cell marks.new }
 {
-    if let Cell::App {
-        symbol: _,
-        arity,
-        args,
-    } = cell
-    {
-        mark_slots(marks, arity as usize, args);
+    if let Cell::App { arity, args, .. } = cell {
+        mark_all(marks, &args[..(arity as usize).min(4)]);
     }
 }
 
-// Marks the first `arity` of the arguments.
-fn mark_slots(marks: &mut [bool], arity: usize, args: [u16; 4])
-    ensures four { length args ≡ 4 }
-    ensures adds { Adding marks.old arity args 4 marks.new }
+// Cells that have no mark are passed over.
+fn mark_all(marks: &mut [bool], cells: &[u16])
+    ensures { Joined marks.old cells.now marks.new }
 {
-    for k in 0..4 {
-        let arg = args[k] as usize;
-        if k < arity && arg < marks.len() {
-            marks[arg] = true;
+    for cell in cells {
+        let at = *cell as usize;
+        if at < marks.len() {
+            marks[at] = true;
         }
     }
 }

@@ -1,4 +1,3 @@
-pub mod Slotting
 pub mod Rebuilding
 pub mod Forming
 pub mod Looping

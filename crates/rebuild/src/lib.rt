@@ -1,7 +1,7 @@
 // The changed forms of a step: of each subterm that contained the replaced one, in the bank's order.
 #![tactic(auto)]
 
-ghost use Rattle.std.specs.Prelude.{◌≡◌, ◌<◌, ◌≤◌, length};
+ghost use Rattle.std.specs.Prelude.{◌≡◌, ◌<◌, ◌≤◌, length, slice_index};
 ghost use Rattle.bank.specs.declared.cell.Cell.TheVariants.{Var};
 ghost use Rattle.enter.specs.Machine.{Grew};
 ghost use Rattle.rebuild.specs.Forms.{Slotted, Mapped};
@@ -10,6 +10,7 @@ ghost use Rattle.rebuild.specs.Rebuilds.{Formed, Rebuilds};
 use bank::cell::Cell;
 use enter::enter_cell;
 use lent_list::Count;
+use std::array;
 
 // The replaced cell and the cell put in its place.
 #[derive(Clone, Copy)]
@@ -39,10 +40,7 @@ pub fn rebuild(
         return None;
     }
     for k in 0..root + 1 {
-        match form(cells, count, k, change, marks, forms) {
-            Some(cell) => forms[k] = cell,
-            None => return None,
-        }
+        forms[k] = form(cells, count, k, change, marks, forms)?;
     }
     Some(forms[root])
 }
@@ -95,16 +93,21 @@ fn changed_cell(cell: Cell, forms: &[u16]) -> Cell
     }
 }
 
-#[tactic(auto, using(crate::proofs::Slotting::fills, crate::proofs::Slotting::stays))]
 fn changed_args(arity: usize, args: [u16; 4], forms: &[u16]) -> [u16; 4]
     ensures { Slotted arity forms.now args result }
 {
-    let mut changed = [0; 4];
-    for k in 0..4 {
-        let arg = args[k] as usize;
-        if k < arity && arg < forms.len() {
-            changed[k] = forms[arg];
+    array::from_fn(|k| {
+        if k < arity {
+            form_of(args[k], forms)
+        } else {
+            0
         }
-    }
-    changed
+    })
+}
+
+// 0 for a cell that has no form.
+fn form_of(cell: u16, forms: &[u16]) -> u16
+    ensures { result ≡ slice_index forms.now cell }
+{
+    forms.get(cell as usize).copied().unwrap_or(0)
 }

@@ -1,2 +1,2 @@
-pub mod Lowering
 pub mod Searching
+pub mod Lowering

@@ -1,5 +1,5 @@
 -- The search for the next redex.
-use Rattle.std.specs.Prelude.{◌≡◌, ℕ, ◌<◌, ◌≤◌, min, Bool, true, false, List, [], length, Some, None, Decides, Option, slice_index_or}
+use Rattle.std.specs.Prelude.{◌≡◌, ℕ, ◌<◌, ◌≤◌, Bool, true, false, List, [], length, Some, None, Decides, Option, slice_index_or}
 use Rattle.lists.specs.Members.{In}
 use Rattle.terms.specs.Sig.{Sig}
 use Rattle.bank.specs.declared.cell.Cell.{Cell}
@@ -9,10 +9,6 @@ use Rattle.index.specs.Found.{Generalizes}
 use Rattle.reduction.specs.Reaches.{Reaches}
 use Rattle.reduction.specs.Redexes.{Picked, Normal}
 use Rattle.strategy.specs.declared.Redex.{Redex}
-
-abbrev pub lowered : Option ℕ → ℕ → ℕ
-lowered None n = n
-lowered (Some k) n = min k n
 
 -- the lowest of some numbers
 abbrev pub Lowest : List ℕ → Option ℕ → Type 0

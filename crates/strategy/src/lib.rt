@@ -1,8 +1,7 @@
 // Where the next step is taken: at the earliest cell that is an instance of a stored pattern, by the lowest number of such a pattern.
 #![tactic(auto)]
 
-ghost use Rattle.std.specs.Prelude.{◌≡◌};
-ghost use Rattle.strategy.specs.Searches.{lowered, Lowest, LowestAt, Searched};
+ghost use Rattle.strategy.specs.Searches.{Lowest, LowestAt, Searched};
 
 use bank::cell::Cell;
 use index::exact::ExactIndex;
@@ -32,15 +31,11 @@ pub fn next_redex<I: ExactIndex>(
     }
     for k in 0..root + 1 {
         if marks[k] && !settled[k] {
-            match lowest_at(index, bank, k as u16) {
-                Some(equation) => {
-                    return Some(Redex {
-                        cell: k as u16,
-                        equation,
-                    });
-                }
-                None => settled[k] = true,
+            let cell = k as u16;
+            if let Some(equation) = lowest_at(index, bank, cell) {
+                return Some(Redex { cell, equation });
             }
+            settled[k] = true;
         }
     }
     None
@@ -59,18 +54,5 @@ fn lowest_at<I: ExactIndex>(index: &I, bank: &[Cell], cell: u16) -> Option<u16>
 fn lowest(numbers: &[u16]) -> Option<u16>
     ensures { Lowest numbers.now result }
 {
-    let mut best = None;
-    for number in numbers {
-        best = Some(lower(best, *number));
-    }
-    best
-}
-
-fn lower(best: Option<u16>, number: u16) -> u16
-    ensures { result ≡ lowered best number }
-{
-    match best {
-        Some(low) => low.min(number),
-        None => number,
-    }
+    numbers.iter().copied().min()
 }

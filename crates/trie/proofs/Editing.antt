@@ -14,7 +14,7 @@ use Rattle.trie.specs.Pools.{spelled, is_sound}
 use Rattle.trie.specs.Ways.{reads, next_at, nodes_with, marks_with, Stands, Missing, Ending}
 use Rattle.trie.specs.Taken.{Kept, Spelt}
 use Rattle.trie.specs.Contents.{tree_of, strings_of, string_of, Inserted, Removed, labels}
-use Rattle.trie.proofs.Growing.{Whole, marks, to_sound}
+use Rattle.trie.proofs.Growing.{Whole, to_sound}
 use Rattle.trie.proofs.Holding.{whole}
 use Rattle.trie.proofs.Spelling.{labels_row, labels_length}
 use Rattle.trie.proofs.Adding.{More}
@@ -23,11 +23,8 @@ use Rattle.trie.proofs.Fitting.{pattern_fits}
 use Rattle.trie.proofs.Weighing.{missing_out, room_for}
 use Rattle.trie.proofs.Changing.{stands, Added, Rid, Asked, asked, unlinked, inserted, removed, spelled_whole}
 
-abbrev pub marks_of : Trie → Marks
-marks_of t = marks t.root t.free t.used
-
-pub tree_stands : (t : Trie) → Stands t.nodes t.root (tree_of t)
-tree_stands t = stands t.nodes (marks_of t) (tree_of t) (whole t)
+pub tree_stands : (t : Trie) → Stands t.nodes t.marks.root (tree_of t)
+tree_stands t = stands t.nodes t.marks (tree_of t) (whole t)
 
 inserted_true : (s : List Label) (xs ys : List (List Label)) → More s xs ys → length xs < 64 → Inserted xs s ys true
 inserted_true s xs ys m few = (m.out, few, m.more, m.all)
@@ -83,18 +80,18 @@ module _ (t : Trie) (p : Pattern) (n : ℕ) (row : List Node) (e : row ≡ nodes
 
   -- what is handed to be given back
   pub handed : (link : Link) (h : Ending (tree_of t) (labels row n) n link) (ns : List Branch) (m : Marks) (first next : Option ℕ)
-      → first ≡ reads t.nodes t.root link → next ≡ next_at t.nodes first → ns ≡ nodes_with t.nodes link next → m ≡ marks_with (marks_of t) link next
-      → Asked t.nodes (marks_of t) (tree_of t) (labels row n) link (whole t) (cut_here link h) ns m first
+      → first ≡ reads t.nodes t.marks.root link → next ≡ next_at t.nodes first → ns ≡ nodes_with t.nodes link next → m ≡ marks_with t.marks link next
+      → Asked t.nodes t.marks (tree_of t) (labels row n) link (whole t) (cut_here link h) ns m first
   handed link h ns m first next ef ex en em =
       let c = cut_here link h in
-      asked t.nodes (marks_of t) (tree_of t) (labels row n) link (whole t) c ns m first (unlinked t.nodes (marks_of t) (tree_of t) (labels row n) link (whole t) c ns m first next ef ex en em)
+      asked t.nodes t.marks (tree_of t) (labels row n) link (whole t) c ns m first (unlinked t.nodes t.marks (tree_of t) (labels row n) link (whole t) c ns m first next ef ex en em)
 
   pub removes : (link : Link) (h : Ending (tree_of t) (labels row n) n link) (ns : List Branch) (m : Marks) (first next : Option ℕ)
-      → first ≡ reads t.nodes t.root link → next ≡ next_at t.nodes first → ns ≡ nodes_with t.nodes link next → m ≡ marks_with (marks_of t) link next
+      → first ≡ reads t.nodes t.marks.root link → next ≡ next_at t.nodes first → ns ≡ nodes_with t.nodes link next → m ≡ marks_with t.marks link next
       → (ns' : List Branch) (m' : Marks) → Kept ns' m' (spelled ns m.root) [] → Rid ns' m' (tree_of t) (string_of p n)
   removes link h ns m first next ef ex en em ns' m' k =
       subst (Rid ns' m' (tree_of t)) spells
-      (removed t.nodes (marks_of t) (tree_of t) (labels row n) link (whole t) (cut_here link h) ns' m' (spelled ns m.root) (handed link h ns m first next ef ex en em).tree k (labels_row row n))
+      (removed t.nodes t.marks (tree_of t) (labels row n) link (whole t) (cut_here link h) ns' m' (spelled ns m.root) (handed link h ns m first next ef ex en em).tree k (labels_row row n))
 
   pub added_carried : (ns : List Branch) (m : Marks) → Added ns m (tree_of t) (string_of p n) → Carried ns m (t.len + 1)
   added_carried ns m a = carried ns m a.tree (t.len + 1) a.whole (omega (arith, a.more.more, t.counted))

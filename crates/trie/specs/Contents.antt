@@ -12,7 +12,7 @@ use Rattle.trie.specs.Trees.{Tree, strings}
 use Rattle.trie.specs.Pools.{spelled}
 
 abbrev pub tree_of : Trie → Tree
-tree_of t = spelled t.nodes t.root
+tree_of t = spelled t.nodes t.marks.root
 
 abbrev pub strings_of : Trie → List (List Label)
 strings_of t = strings (tree_of t)

@@ -1,5 +1,5 @@
 -- A place in a tree, with what stands around it.
-use Rattle.std.specs.Prelude.{◌≡◌, ℕ, ◌<◌, ◌≤◌, true, false, List, [], ◌∷◌, length, drop, Some, None, Option, slice_index_or, slice_set}
+use Rattle.std.specs.Prelude.{◌≡◌, ℕ, ◌<◌, ◌≤◌, true, false, List, [], ◌∷◌, length, drop, Some, None, Ok, Err, Option, Result, slice_index_or, slice_set}
 use Rattle.terms.specs.declared.pattern.Node.{Node}
 use Rattle.trie.specs.declared.branch.Label.{Label}
 use Rattle.trie.specs.declared.branch.Label.TheVariants.{Number}
@@ -7,8 +7,7 @@ use Rattle.trie.specs.declared.branch.Branch.{Branch}
 use Rattle.trie.specs.declared.trie.links.Link.{Link}
 use Rattle.trie.specs.declared.trie.links.Link.TheVariants.{Root, Down, Right}
 use Rattle.trie.specs.declared.trie.rooms.Marks.{Marks}
-use Rattle.trie.specs.declared.trie.seek.Sought.{Sought}
-use Rattle.trie.specs.declared.trie.seek.Sought.TheVariants.{There, Absent}
+use Rattle.trie.specs.declared.trie.seek.Gap.{Gap}
 use Rattle.trie.specs.Trees.{Tree, nil, node, blank, places, heads, same_label, none_same, is_number, is_trim}
 use Rattle.trie.specs.Pools.{Held}
 use Rattle.trie.specs.Contents.{labels}
@@ -104,6 +103,6 @@ pub record Ending (t : Tree) (s : List Label) (n : ℕ) (cut : Link) : Type 0 wh
   pub along : Along way (Number n ∷ []) s
   pub led : cut ≡ chosen (link_of way) (first beside) (cut_of way)
 
-abbrev pub Seeks : Tree → List Node → ℕ → Sought → Type 0
-Seeks t row n (There cut) = Ending t (labels row n) n cut
-Seeks t row n (Absent link at) = Missing t (labels row n) link at
+abbrev pub Seeks : Tree → List Node → ℕ → Result Link Gap → Type 0
+Seeks t row n (Ok cut) = Ending t (labels row n) n cut
+Seeks t row n (Err gap) = Missing t (labels row n) gap.link gap.at

@@ -17,18 +17,14 @@ fn long(first: u8) -> Option<Pattern> {
 }
 
 fn insert_all(trie: &mut Trie, number: u16) {
-    for first in 0..64 {
-        if let Some(pattern) = long(first) {
-            let _ = trie.insert(&pattern, number);
-        }
+    for pattern in (0..64).filter_map(long) {
+        let _ = trie.insert(&pattern, number);
     }
 }
 
 fn remove_all(trie: &mut Trie, number: u16) {
-    for first in 0..64 {
-        if let Some(pattern) = long(63 - first) {
-            let _ = trie.remove(&pattern, number);
-        }
+    for pattern in (0..64).rev().filter_map(long) {
+        let _ = trie.remove(&pattern, number);
     }
 }
 
@@ -37,10 +33,7 @@ fn gives_every_node_back(rt: HostRuntime) -> Result<(), Fail> {
     let mut trie = Trie::new();
     insert_all(&mut trie, 7);
     assert_eq!(rt; trie.len(), 64);
-    let Some(pattern) = long(5) else {
-        assert!(rt; false);
-        return Ok(());
-    };
+    let pattern = long(5).ok_or("no pattern")?;
     assert!(rt; !trie.insert(&pattern, 8));
     remove_all(&mut trie, 7);
     assert_eq!(rt; trie.len(), 0);
@@ -59,14 +52,8 @@ fn gives_every_node_back(rt: HostRuntime) -> Result<(), Fail> {
 
 #[test]
 fn shares_beginnings(rt: HostRuntime) -> Result<(), Fail> {
-    let Some(long) = long(0) else {
-        assert!(rt; false);
-        return Ok(());
-    };
-    let Some(short) = Pattern::variable(3) else {
-        assert!(rt; false);
-        return Ok(());
-    };
+    let long = long(0).ok_or("no pattern")?;
+    let short = Pattern::variable(3).ok_or("no pattern")?;
     let mut trie = Trie::new();
     assert!(rt; trie.insert(&long, 1));
     assert!(rt; trie.insert(&long, 2));

@@ -1,7 +1,7 @@
 use Rattle.std.proofs.Common.{inl, inr, arith}
 use Rattle.strategy.proofs.Searching.{starts, unreached, known, settles, picks, ends}
 use Rattle.strategy.proofs.next_redex.Goals as goal
-use Rattle.strategy.proofs.next_redex.Goals.{then-marks-k+then-not-settled-k+in-None, else-marks-k, else-marks-k-via-then-marks-k+else-not-settled-k, else-marks-k-via-else-marks-k}
+use Rattle.strategy.proofs.next_redex.Goals.{then-marks-k+then-not-settled-k+in_default, else-marks-k, else-marks-k-via-then-marks-k+else-not-settled-k, else-marks-k-via-else-marks-k}
 
 pub returns-then-root-bank : goal.returns-then-root-bank
 returns-then-root-bank g c S h marked room decided settled = absurd (elim c.then-root-bank.either [
@@ -18,7 +18,7 @@ returns-in-Some g c S h marked room decided settled =
 
 pub loop-k-preserved : goal.loop-k-preserved
 loop-k-preserved g c = elim c.if-marks-k.branch [
-  | then-marks-k+then-not-settled-k+in-None w ↦ rw w.settled-is (settles _ _ _ _ _ c.loop-k.k c.loop-k.settled c.loop-k.invariant (omega (arith, c.loop-k-test.true)) (omega (arith, c.loop-k.auto.settled, c.if-root-settled.false, c.loop-k-test.true)) w.in-None.ensures)
+  | then-marks-k+then-not-settled-k+in_default w ↦ rw w.settled-is (settles _ _ _ _ _ c.loop-k.k c.loop-k.settled c.loop-k.invariant (omega (arith, c.loop-k-test.true)) (omega (arith, c.loop-k.auto.settled, c.if-root-settled.false, c.loop-k-test.true)) w.in_default.ensures)
   | else-marks-k w ↦ rw w.settled-is (elim w.else-marks-k.branch [
     | else-marks-k-via-then-marks-k+else-not-settled-k v ↦ known _ _ _ _ _ c.loop-k.k c.loop-k.settled c.loop-k.invariant v.if-not-settled-k.false
     | else-marks-k-via-else-marks-k v ↦ unreached _ _ _ _ _ c.loop-k.k c.loop-k.settled c.loop-k.invariant v.if-marks-k.false

@@ -29,10 +29,7 @@ pub fn next_at(nodes: &[Branch], place: Option<u16>) -> Option<u16>
     requires { Within (length nodes.now) place }
     ensures { result ≡ next_at nodes.now place }
 {
-    match place {
-        Some(v) => nodes[v as usize].right,
-        None => None,
-    }
+    nodes[place? as usize].right
 }
 
 pub fn relink(nodes: &mut [Branch], marks: &mut Marks, link: Link, to: Option<u16>)

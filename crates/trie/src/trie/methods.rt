@@ -3,6 +3,7 @@ ghost use Rattle.trie.specs.Trees.{blank};
 ghost use Rattle.trie.specs.Contents.{strings_of};
 
 use super::Trie;
+use super::rooms::Marks;
 use crate::branch::{Branch, Label};
 
 impl Trie {
@@ -15,9 +16,7 @@ impl Trie {
                 down: None,
                 right: None,
             }; 2112],
-            root: None,
-            free: None,
-            used: 0,
+            marks: Marks::EMPTY,
             len: 0,
         }
     }
@@ -31,20 +30,15 @@ impl Trie {
 
     // The first of the nodes that may stand first in a row.
     pub fn root(&self) -> Option<u16>
-        ensures { result ≡ self.now.root }
+        ensures { result ≡ self.now.marks.root }
     {
-        self.root
+        self.marks.root
     }
 
     // The node at a place of the pool.
     pub fn branch(&self, place: u16) -> Option<Branch>
         ensures { MatchOption result (length self.now.nodes ≤ place) (λ b. (place < length self.now.nodes) × (b ≡ slice_index_or self.now.nodes place blank)) }
     {
-        let place = place as usize;
-        if place < 2112 {
-            Some(self.nodes[place])
-        } else {
-            None
-        }
+        self.nodes.get(place as usize).copied()
     }
 }

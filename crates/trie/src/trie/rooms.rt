@@ -9,12 +9,20 @@ use super::seek::label_at;
 use crate::branch::Branch;
 use terms::pattern::Node;
 
-// Where the tree begins, and the free places.
+// Where the tree begins, the first of the places that were given back, and the first that was never taken.
 #[derive(Clone, Copy)]
 pub struct Marks {
     pub root: Option<u16>,
     pub free: Option<u16>,
     pub used: usize,
+}
+
+impl Marks {
+    pub const EMPTY: Marks = Marks {
+        root: None,
+        free: None,
+        used: 0,
+    };
 }
 
 fn take(nodes: &[Branch], marks: &mut Marks) -> u16
@@ -51,9 +59,7 @@ pub fn spell(
     ensures { Spelt nodes.new marks.new (spelled nodes.old marks.old.root) (drop at (labels row.now number)) result }
 {
     let mut down = None;
-    let mut i = row.len() + 1;
-    while at < i {
-        i -= 1;
+    for i in (at..row.len() + 1).rev() {
         let v = take(nodes, marks);
         nodes[v as usize] = Branch {
             label: label_at(row, number, i),

@@ -10,7 +10,7 @@ loop-depth-init c =
     let p = c.one-pending.result in
     let fs = frames c.push-depth.new.agenda c.push-depth.result in
     let size : length c.push-depth.new.agenda ≡ 33 = search rules in
-    let start : fs ≡ laid T.root p ++ [] = c.push-depth.ensures.frames ∙ ap (λ o. laid o p ++ []) c.root.ensures in (
+    let start : fs ≡ laid T.marks.root p ++ [] = c.push-depth.ensures.frames ∙ ap (λ o. laid o p ++ []) c.root.ensures in (
       start_ready T p c.one-pending.ensures.len fs start,
       omega (arith, c.push-depth.ensures.within),
       size,

@@ -4,6 +4,6 @@ use Rattle.plain_list.proofs.PlainListIndex.retrieve.Goals as goal
 
 pub returns : goal.returns
 returns c = record {
-  within = c.generalizing-found.ensures.within;
-  finds = λ S a. as_candidates (answers c.args.self.now.entries c.items.result.now c.args.bank.now c.args.cell c.generalizing-found.result c.args.list.now c.generalizing-found.new.list c.items.ensures c.generalizing-found.ensures.finds S a);
+  within = c.generalizing.ensures.within;
+  finds = λ S a. as_candidates (answers c.args.self.now.entries c.items.result.now c.args.bank.now c.args.cell c.generalizing.new.found.len c.args.list.now c.generalizing.new.list c.items.ensures c.generalizing.ensures.finds S a);
 }

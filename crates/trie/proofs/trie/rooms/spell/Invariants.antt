@@ -1,13 +1,11 @@
-use Rattle.std.proofs.Common.{◌+◌, ◌-◌, ◌≤◌, length, drop}
+use Rattle.std.proofs.Common.{◌≤◌, drop}
 use Rattle.trie.specs.Contents.{labels}
 use Rattle.trie.specs.Pools.{spelled}
 use Rattle.trie.specs.Taken.{Spelt}
 use Rattle.trie.proofs.trie.rooms.spell.Given as goal
 
 abbrev pub invariant-loop-i : goal.invariant-loop-i
-invariant-loop-i l =
-    Spelt l.nodes l.marks (spelled l.initial.nodes l.initial.marks.root) (drop l.i (labels l.row l.number)) l.down
-    × (l.i ≤ length l.row + 1) × (l.at ≤ l.i)
-
-abbrev pub decreases-loop-i : goal.decreases-loop-i
-decreases-loop-i l = l.i - l.at
+invariant-loop-i l = record {
+  spelt : Spelt l.nodes l.marks (spelled l.initial.nodes l.initial.marks.root) (drop l.i (labels l.row l.number)) l.down;
+  above : l.at ≤ l.i;
+}

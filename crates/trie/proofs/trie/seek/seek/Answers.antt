@@ -15,8 +15,8 @@ label_at-requires c = let len = labels_length c.args.row.now c.args.number in om
 
 pub returns-then-at-row : goal.returns-then-at-row
 returns-then-at-row c =
-    turn_end c.args.nodes.now c.args.root _ c.args.row.now c.args.number c.loop-v.link c.loop-v.cut c.loop-v.at c.in-Some.v c.loop-v.invariant c.follow.result c.follow.ensures c.in-Some.is c.label_at.result c.label_at.ensures c.same.result c.cut_at-cut.result
-    c.same.ensures c.if-same.true c.if-at-row.true c.cut_at-cut.ensures
+    turn_end c.args.nodes.now c.args.root _ c.args.row.now c.args.number c.loop-v.link c.loop-v.cut c.loop-v.at c.in-Some.v c.loop-v.invariant c.follow.result c.follow.ensures c.in-Some.is c.label_at.result c.label_at.ensures c.eq.result c.cut_at-cut.result
+    (search rules) c.if-eq.true c.if-at-row.true c.cut_at-cut.ensures
 
 pub overflow_add-at : goal.overflow_add-at
 overflow_add-at c =
@@ -25,21 +25,21 @@ overflow_add-at c =
     let inside : c.loop-v.at < length c.args.row.now = below_other le c.if-at-row.false in
     search rules
 
-pub loop-v-smaller-then-same : goal.loop-v-smaller-then-same
-loop-v-smaller-then-same c =
-    (turn_down c.args.nodes.now c.args.root _ c.args.row.now c.args.number c.loop-v.link c.loop-v.cut c.loop-v.at c.in-Some.v c.loop-v.invariant c.follow.result c.follow.ensures c.in-Some.is c.label_at.result c.label_at.ensures c.same.result c.cut_at-cut.result
-    c.same.ensures c.if-same.true c.if-at-row.false c.cut_at-cut.ensures).less
+pub loop-v-smaller-then-eq : goal.loop-v-smaller-then-eq
+loop-v-smaller-then-eq c =
+    (turn_down c.args.nodes.now c.args.root _ c.args.row.now c.args.number c.loop-v.link c.loop-v.cut c.loop-v.at c.in-Some.v c.loop-v.invariant c.follow.result c.follow.ensures c.in-Some.is c.label_at.result c.label_at.ensures c.eq.result c.cut_at-cut.result
+    (search rules) c.if-eq.true c.if-at-row.false c.cut_at-cut.ensures).less
 
-pub loop-v-preserved-then-same : goal.loop-v-preserved-then-same
-loop-v-preserved-then-same c =
-    (turn_down c.args.nodes.now c.args.root _ c.args.row.now c.args.number c.loop-v.link c.loop-v.cut c.loop-v.at c.in-Some.v c.loop-v.invariant c.follow.result c.follow.ensures c.in-Some.is c.label_at.result c.label_at.ensures c.same.result c.cut_at-cut.result
-    c.same.ensures c.if-same.true c.if-at-row.false c.cut_at-cut.ensures).seeking
+pub loop-v-preserved-then-eq : goal.loop-v-preserved-then-eq
+loop-v-preserved-then-eq c =
+    (turn_down c.args.nodes.now c.args.root _ c.args.row.now c.args.number c.loop-v.link c.loop-v.cut c.loop-v.at c.in-Some.v c.loop-v.invariant c.follow.result c.follow.ensures c.in-Some.is c.label_at.result c.label_at.ensures c.eq.result c.cut_at-cut.result
+    (search rules) c.if-eq.true c.if-at-row.false c.cut_at-cut.ensures).seeking
 
 pub loop-v-smaller : goal.loop-v-smaller
-loop-v-smaller c = (turn_right c.args.nodes.now c.args.root _ c.args.row.now c.args.number c.loop-v.link c.loop-v.cut c.loop-v.at c.in-Some.v c.loop-v.invariant c.follow.result c.follow.ensures c.in-Some.is c.label_at.result c.label_at.ensures c.same.result c.same.ensures c.if-same.false).less
+loop-v-smaller c = (turn_right c.args.nodes.now c.args.root _ c.args.row.now c.args.number c.loop-v.link c.loop-v.cut c.loop-v.at c.in-Some.v c.loop-v.invariant c.follow.result c.follow.ensures c.in-Some.is c.label_at.result c.label_at.ensures c.eq.result (search rules) c.if-eq.false).less
 
 pub loop-v-preserved : goal.loop-v-preserved
-loop-v-preserved c = (turn_right c.args.nodes.now c.args.root _ c.args.row.now c.args.number c.loop-v.link c.loop-v.cut c.loop-v.at c.in-Some.v c.loop-v.invariant c.follow.result c.follow.ensures c.in-Some.is c.label_at.result c.label_at.ensures c.same.result c.same.ensures c.if-same.false).seeking
+loop-v-preserved c = (turn_right c.args.nodes.now c.args.root _ c.args.row.now c.args.number c.loop-v.link c.loop-v.cut c.loop-v.at c.in-Some.v c.loop-v.invariant c.follow.result c.follow.ensures c.in-Some.is c.label_at.result c.label_at.ensures c.eq.result (search rules) c.if-eq.false).seeking
 
 pub returns : goal.returns
 returns c = missing c.args.nodes.now c.args.root _ (labels c.args.row.now c.args.number) c.loop-v.link c.loop-v.cut c.loop-v.at c.loop-v.invariant (sym c.follow.ensures ∙ c.in_default.is)
