@@ -7,7 +7,6 @@ ghost use Rattle.rewriting.specs.Lpo.{Lpo};
 ghost use Rattle.rewriting.proofs.Over.{within};
 ghost use Rattle.rewriting.proofs.Lpo.{lpo_lawful};
 
-use crate::sides::Sides;
 use order::ReductionOrder;
 use over::are_over;
 use signature::signature::Signature;
@@ -24,6 +23,6 @@ impl ReductionOrder for LexicographicPath {
     ghost reduces = { λ o g. within (sig_of g) lpo_lawful };
 
     fn is_above(&self, signature: &Signature, s: &Pattern, t: &Pattern) -> bool {
-        are_over(signature, s, t) && Sides::new(s, t).is_above()
+        are_over(signature, s, t) && sides::is_above(s, t)
     }
 }

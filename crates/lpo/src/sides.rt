@@ -6,6 +6,8 @@ use subterms::Subterms;
 mod fill;
 mod pairs;
 
+pub use fill::is_above;
+
 // The pair of the places i and j stands at 32 i + j.
 #[derive(Clone, Copy)]
 pub struct Sides {

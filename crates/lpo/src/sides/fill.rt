@@ -1,6 +1,6 @@
 // All pairs of subterms, the later ones first: an argument stands behind its head.
 ghost use Rattle.std.specs.Prelude.{◌≡◌, ◌+◌, ◌*◌, ◌<◌, length, Decides};
-ghost use Rattle.terms.specs.Patterns.{nodes_of};
+ghost use Rattle.terms.specs.Patterns.{nodes_of, term_of};
 ghost use Rattle.rewriting.specs.Lpo.{Lpo};
 ghost use Rattle.subterms.specs.Places.{at};
 ghost use Rattle.lpo.specs.Seen.{Seen, up, low};
@@ -37,11 +37,11 @@ impl Sides {
             self.seen[32 * p + q] = self.compare(p, q);
         }
     }
+}
 
-    pub fn is_above(&self) -> bool
-        requires { Seen self.now 0 }
-        ensures { Decides result (Lpo (at (up self.now) 0) (at (low self.now) 0)) }
-    {
-        self.pair(0, 0) == Compared::Above
-    }
+// Whether s is above t.
+pub fn is_above(s: &Pattern, t: &Pattern) -> bool
+    ensures { Decides result (Lpo (term_of s.now) (term_of t.now)) }
+{
+    Sides::new(s, t).pair(0, 0) == Compared::Above
 }
