@@ -1,5 +1,5 @@
 -- The outcome of reading, at each of its ends.
-use Rattle.std.proofs.Common.{◌≡◌, ℕ, List, [], length, take, drop, Some, None, Ok, Err, Option, Result, sym, ap, ◌∙◌, subst, MatchOption}
+use Rattle.std.proofs.Common.{◌≡◌, ℕ, List, [], length, drop, Some, None, Ok, Err, Option, Result, sym, ap, ◌∙◌, subst, MatchOption}
 use Rattle.refusal.specs.declared.Refusal.{Refusal}
 use Rattle.refusal.specs.declared.Refusal.TheVariants.{Symbol, Size}
 use Rattle.terms.specs.Preorder.{Fits}
@@ -15,6 +15,7 @@ use Rattle.formula.specs.Scans.{scan}
 use Rattle.formula.specs.Rows.{Row, row_of, names_in, spanned}
 use Rattle.formula.specs.Roles.{role_first, sign_first}
 use Rattle.formula.specs.Outcomes.{Outcome, ungrammatical, unknown, too_large, read, all_uses}
+use Rattle.row.specs.Items.{items}
 use Rattle.formula.specs.declared.equation.Equation.{Equation}
 use Rattle.formula.specs.declared.variables.Variables.{Variables}
 use Rattle.formula.proofs.Meaning.{checked_ok, parts, unknown_at, all_known, left_large, left_row, Rows, right_large, both, left_nodes, right_nodes, left_fits, right_fits, left_over, right_over, pattern_term}
@@ -32,12 +33,12 @@ module _ (s : Signature) (text : List ℕ) (checked : Checked text (Ok tt)) (b :
   pub unknown_symbol : (p : ℕ) → Some p ≡ scan s [] None (tokens_from (drop b text) b) → Outcome s text (Err (Symbol p))
   unknown_symbol p h = unknown x checked is (unknown_at s (tokens text) x is (tokens_from (drop b text) b) p body h)
 
-  module _ (none : None ≡ scan s [] None (tokens_from (drop b text) b)) (v : Variables) (fresh : v.count ≡ 0) where
+  module _ (none : None ≡ scan s [] None (tokens_from (drop b text) b)) (v : Variables) (fresh : items v.spans ≡ []) where
     known : NoneMisused s (all_uses x.body)
     known = all_known s (tokens text) x is (tokens_from (drop b text) b) body none
 
     no_names : names_in text v ≡ []
-    no_names = ap (λ n. spanned text (take n v.spans)) fresh
+    no_names = ap (spanned text) fresh
 
     from_none : (r : Result Row ℕ) → row_of s (names_in text v) [] (tokens_from (drop b text) b) ≡ r → row_of s [] [] (tokens_from (drop b text) b) ≡ r
     from_none r e = ap (λ vs. row_of s vs [] (tokens_from (drop b text) b)) (sym no_names) ∙ e

@@ -9,12 +9,12 @@ use Rattle.terms.specs.declared.pattern.Node.{Node}
 use Rattle.terms.specs.declared.pattern.Node.TheVariants.{Var, App}
 use Rattle.signature.specs.Signatures.{sig_of}
 use Rattle.signature.specs.declared.signature.Signature.{Signature}
-use Rattle.signature.proofs.Symbols.{arity_within}
+use Rattle.signature.proofs.Symbols.{arity_within, symbols_few}
 use Rattle.lexer.specs.Tokens.{Lexeme}
 use Rattle.lexer.specs.declared.token.Kind.TheVariants.{Word, Variable}
 use Rattle.grammar.specs.Kinds.{same_bytes, same_kind}
 use Rattle.grammar.specs.Syntax.{Tree, Trees, leaf, node, nil, ◌▹◌, Term, Args, variable, constant, applied, last, more, Is}
-use Rattle.grammar.proofs.Same.{bytes_decide}
+use Rattle.std.proofs.lemmas.Slice.Eq.{bytes_eq-Decides}
 use Rattle.grammar.proofs.Steps.{none_some, some_same}
 use Rattle.formula.specs.Symbols.{index_of, number_in, symbol_of}
 use Rattle.formula.specs.Uses.{Use, uses, usess, count, misused, Listed, here, later, NoneMisused}
@@ -33,7 +33,7 @@ index_stays v (n ∷ vs) ws h = by (cases_Bool (same_bytes n v)) (λ k. index_st
         cond-false _ _ _ e ∙ ap (λ k. 1 + k) (ih (omega (arith, one))) ∙ sym one
 
 index_new : (v : List ℕ) (vs ws : List (List ℕ)) → length vs ≤ index_of v vs → index_of v (vs ++ v ∷ ws) ≡ index_of v vs
-index_new v [] ws h = cond-true _ _ _ ((bytes_decide v v).1 refl)
+index_new v [] ws h = cond-true _ _ _ ((bytes_eq-Decides v v).1 refl)
 index_new v (n ∷ vs) ws h = by (cases_Bool (same_bytes n v)) (λ k. index_new v vs ws k)
   where
     by : (same_bytes n v ≡ true) ⊎ (same_bytes n v ≡ false) → (length vs ≤ index_of v vs → index_of v (vs ++ v ∷ ws) ≡ index_of v vs) → index_of v (n ∷ (vs ++ v ∷ ws)) ≡ index_of v (n ∷ vs)
@@ -180,7 +180,7 @@ module _ (s : Signature) where
       by : (ltb (number_in s w) (sig_of s).symbols ≡ true) ⊎ (ltb (number_in s w) (sig_of s).symbols ≡ false) → small n ≡ true
       by (inl t) =
           let is : App (number_in s w) ((sig_of s).arity (number_in s w)) ≡ n = some_same (sym (cond-true _ _ _ t) ∙ e) in
-          ap small (sym is) ∙ and_from _ _ (lt-ltb (number_in s w) 64 (omega (arith, ltb-true (number_in s w) s.count t, s.few))) (lt-ltb ((sig_of s).arity (number_in s w)) 5 (omega (arith, arity_within s (number_in s w))))
+          ap small (sym is) ∙ and_from _ _ (lt-ltb (number_in s w) 64 (omega (arith, ltb-true (number_in s w) (sig_of s).symbols t, symbols_few s))) (lt-ltb ((sig_of s).arity (number_in s w)) 5 (omega (arith, arity_within s (number_in s w))))
       by (inr t) = none_some (sym (cond-false _ (Some (App (number_in s w) ((sig_of s).arity (number_in s w)))) None t) ∙ e)
 
   small_more : (ns : List Node) (n : Node) → all_small ns ≡ true → small n ≡ true → all_small (ns ++ n ∷ []) ≡ true

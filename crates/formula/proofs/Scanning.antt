@@ -11,7 +11,7 @@ use Rattle.lexer.specs.Tokens.{Lexeme}
 use Rattle.lexer.specs.declared.token.Kind.TheVariants.{Close, Dot, Equal, Unequal}
 use Rattle.grammar.specs.Syntax.{Tree, Trees, Term, Args, variable, constant, applied, last, more, Literal, Sides, sides, Body, bare, wrapped, Is}
 use Rattle.formula.specs.Symbols.{symbol_of, number_in}
-use Rattle.formula.specs.Scans.{arity_code, arity_for, note, bumped, opens, scan}
+use Rattle.formula.specs.Scans.{arity_in, arity_for, as_many, note, bumped, opens, scan}
 use Rattle.formula.specs.Uses.{Use, uses, usess, count, misused}
 use Rattle.formula.specs.Outcomes.{all_uses}
 use Rattle.formula.specs.declared.frame.Frame.{Frame}
@@ -33,7 +33,7 @@ Few None = Unit {0}
 Few (Some (Var x)) = Unit {0}
 Few (Some (App f a)) = a ≤ 4
 
-test_right : (o : Option Node) (n : ℕ) → Few o → eqb (capped n) (arity_code o) ≡ not (wrong o n)
+test_right : (o : Option Node) (n : ℕ) → Few o → as_many (capped n) (arity_in o) ≡ not (wrong o n)
 test_right None n h = grind (arith, nat_tests)
 test_right (Some (Var x)) n h = grind (arith, nat_tests)
 test_right (Some (App f a)) n h = grind (arith, nat_tests)
@@ -45,7 +45,7 @@ module _ (s : Signature) where
   abbrev use_of : Lexeme → ℕ → Use
   use_of w n = record { word = w; args = n }
 
-  right : (w : Lexeme) (n : ℕ) → eqb (capped n) (arity_for s w.bytes) ≡ not (misused s (use_of w n))
+  right : (w : Lexeme) (n : ℕ) → as_many (capped n) (arity_for s w.bytes) ≡ not (misused s (use_of w n))
   right w n = test_right (symbol_of s w.bytes) n (few s w.bytes)
 
   abbrev frame : Lexeme → ℕ → Frame

@@ -5,6 +5,7 @@ use Rattle.terms.specs.declared.pattern.Node.TheVariants.{Var}
 use Rattle.signature.specs.declared.signature.Signature.{Signature}
 use Rattle.lexer.specs.Tokens.{Lexeme}
 use Rattle.lexer.specs.declared.token.Kind.TheVariants.{Word, Variable, Open, Close, Comma, Dot, Equal, Unequal, Stray}
+use Rattle.row.specs.Items.{items}
 use Rattle.formula.specs.Symbols.{index_of, symbol_of}
 use Rattle.formula.specs.Numbering.{with_name}
 use Rattle.formula.specs.declared.variables.Span.{Span}
@@ -34,4 +35,4 @@ abbrev pub spanned : List ℕ → List Span → List (List ℕ)
 spanned text ss = map (λ (s : Span). take s.len (drop s.place text)) ss
 
 abbrev pub names_in : List ℕ → Variables → List (List ℕ)
-names_in text v = spanned text (take v.count v.spans)
+names_in text v = spanned text (items v.spans)

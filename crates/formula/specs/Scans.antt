@@ -9,14 +9,19 @@ use Rattle.grammar.specs.Kinds.{same_kind}
 use Rattle.formula.specs.Symbols.{symbol_of}
 use Rattle.formula.specs.declared.frame.Frame.{Frame}
 
--- 255 stands for no arity: no count, which stops at 5, is ever equal to it
-abbrev pub arity_code : Option Node → ℕ
-arity_code None = 255
-arity_code (Some (Var x)) = 255
-arity_code (Some (App f a)) = a
+-- no arity for a name that no line has
+abbrev pub arity_in : Option Node → Option ℕ
+arity_in None = None
+arity_in (Some (Var x)) = None
+arity_in (Some (App f a)) = Some a
 
-abbrev pub arity_for : Signature → List ℕ → ℕ
-arity_for s w = arity_code (symbol_of s w)
+abbrev pub arity_for : Signature → List ℕ → Option ℕ
+arity_for s w = arity_in (symbol_of s w)
+
+-- so many arguments are as many as the arity
+abbrev pub as_many : ℕ → Option ℕ → Bool
+as_many n None = false
+as_many n (Some a) = n == a
 
 abbrev pub low : Option ℕ → ℕ → Option ℕ
 low None p = Some p
@@ -44,14 +49,14 @@ at_close (f ∷ fs) = fs
 
 abbrev pub noted_at_close : List Frame → Option ℕ → Option ℕ
 noted_at_close [] b = b
-noted_at_close (f ∷ fs) b = note (f.args == f.arity) b f.place
+noted_at_close (f ∷ fs) b = note (as_many f.args f.arity) b f.place
 
 -- the stack behind a token, and the lowest place noted
 abbrev pub stacked : Signature → List Frame → Lexeme → Bool → List Frame
 stacked s fs t o = elim t.kind [ Word ↦ cond o (record { place = t.place; arity = arity_for s t.bytes; args = 1 } ∷ fs) fs | Variable ↦ fs | Open ↦ fs | Close ↦ at_close fs | Comma ↦ at_comma fs | Dot ↦ fs | Equal ↦ fs | Unequal ↦ fs | Stray ↦ fs ]
 
 abbrev pub noted : Signature → List Frame → Option ℕ → Lexeme → Bool → Option ℕ
-noted s fs b t o = elim t.kind [ Word ↦ cond o b (note (0 == arity_for s t.bytes) b t.place) | Variable ↦ b | Open ↦ b | Close ↦ noted_at_close fs b | Comma ↦ b | Dot ↦ b | Equal ↦ b | Unequal ↦ b | Stray ↦ b ]
+noted s fs b t o = elim t.kind [ Word ↦ cond o b (note (as_many 0 (arity_for s t.bytes)) b t.place) | Variable ↦ b | Open ↦ b | Close ↦ noted_at_close fs b | Comma ↦ b | Dot ↦ b | Equal ↦ b | Unequal ↦ b | Stray ↦ b ]
 
 -- the lowest place noted over all tokens
 abbrev pub scan : Signature → List Frame → Option ℕ → List Lexeme → Option ℕ

@@ -10,9 +10,8 @@ use crate::tokens::skip_tokens;
 use crate::uses::first_misused;
 use crate::variables::Variables;
 use grammar::check::check_formula;
-use grammar::machine::{is_kind, is_word};
 use lexer::scanner::next_token;
-use lexer::token::Kind;
+use lexer::token::{Kind, Token};
 use refusal::Refusal;
 use signature::signature::Signature;
 use terms::pattern::Pattern;
@@ -21,14 +20,11 @@ use terms::pattern::Pattern;
 pub fn role_named(word: &[u8]) -> Role
     ensures { result ≡ role_named word.now }
 {
-    if is_word(word, b"axiom") {
-        Role::Axiom
-    } else if is_word(word, b"hypothesis") {
-        Role::Hypothesis
-    } else if is_word(word, b"negated_conjecture") {
-        Role::NegatedConjecture
-    } else {
-        Role::Other
+    match word {
+        b"axiom" => Role::Axiom,
+        b"hypothesis" => Role::Hypothesis,
+        b"negated_conjecture" => Role::NegatedConjecture,
+        _ => Role::Other,
     }
 }
 
@@ -45,7 +41,12 @@ fn sign_at(text: &[u8], at: usize) -> Sign
     ensures { result ≡ sign_first (tokens_from (drop at text.now) at) }
 {
     match next_token(text, at) {
-        Some(token) if is_kind(token.kind, Kind::Equal) => Sign::Equal,
+        Some(
+            Token {
+                kind: Kind::Equal,
+                ..
+            },
+        ) => Sign::Equal,
         _ => Sign::Unequal,
     }
 }
@@ -71,8 +72,8 @@ pub fn read_formula(signature: &Signature, text: &[u8]) -> Result<Equation, Refu
         &mut variables,
     )?;
     // Neither refusal below is ever given: the rows that were read are whole.
-    let left = Pattern::new(left.nodes()).ok_or(Refusal::Size(body))?;
-    let right = Pattern::new(right.nodes()).ok_or(Refusal::Size(body))?;
+    let left = Pattern::new(left.as_slice()).ok_or(Refusal::Size(body))?;
+    let right = Pattern::new(right.as_slice()).ok_or(Refusal::Size(body))?;
     Ok(Equation {
         role,
         sign,

@@ -1,23 +1,23 @@
 // One side of a formula as the row of its nodes.
-ghost use Rattle.std.specs.Prelude.{◌≡◌, ◌≤◌, length};
+ghost use Rattle.refusal.specs.declared.Refusal.TheVariants.{Size as SizeOf};
+ghost use Rattle.std.specs.Prelude.{◌≡◌};
 
-use terms::pattern::Node;
+use refusal::Refusal;
 
 mod methods;
 
-pub use methods::read_side;
-
-// At most 32 nodes.
-#[derive(Clone, Copy)]
-pub struct Side {
-    nodes: [Node; 32],
-    len: usize,
-    ghost room: { length nodes ≡ 32 },
-    ghost few: { len ≤ 32 },
-}
+pub use methods::{LARGEST, read_side};
 
 // The place of the first cell or variable that is one too many.
 #[derive(Clone, Copy, Debug)]
 pub struct TooLarge {
     pub place: usize,
+}
+
+impl From<TooLarge> for Refusal {
+    ghost from_gives = { λ e r. r ≡ SizeOf e.place };
+
+    fn from(e: TooLarge) -> Refusal {
+        Refusal::Size(e.place)
+    }
 }

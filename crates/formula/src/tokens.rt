@@ -3,20 +3,19 @@ ghost use Rattle.std.specs.Prelude.{◌≡◌, drop};
 ghost use Rattle.lexer.specs.Tokens.{tokens_from};
 ghost use Rattle.formula.specs.Scans.{opens as opens_with};
 
-use grammar::machine::is_kind;
 use lexer::scanner::next_token;
-use lexer::token::Kind;
+use lexer::token::{Kind, Token};
 
 // The place behind n tokens.
 pub fn skip_tokens(text: &[u8], at: usize, n: usize) -> usize
     ensures { tokens_from (drop result text.now) result ≡ drop n (tokens_from (drop at text.now) at) }
 {
     let mut place = at;
-    for i in 0..n {
+    for _ in 0..n {
         let Some(token) = next_token(text, place) else {
             return place;
         };
-        place = token.place + token.bytes.len();
+        place = token.end();
     }
     place
 }
@@ -25,8 +24,11 @@ pub fn skip_tokens(text: &[u8], at: usize, n: usize) -> usize
 pub fn opens(text: &[u8], at: usize) -> bool
     ensures { result ≡ opens_with (tokens_from (drop at text.now) at) }
 {
-    match next_token(text, at) {
-        Some(token) => is_kind(token.kind, Kind::Open),
-        None => false,
-    }
+    matches!(
+        next_token(text, at),
+        Some(Token {
+            kind: Kind::Open,
+            ..
+        })
+    )
 }

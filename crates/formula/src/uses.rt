@@ -1,7 +1,6 @@
 // Counting the arguments of symbols, token by token.
-ghost use Rattle.std.specs.Prelude.{◌≡◌, ◌≤◌, length};
-
 use crate::frame::Frame;
+use row::Row;
 
 mod methods;
 
@@ -13,9 +12,6 @@ const DEEPEST: usize = 32768;
 // The symbols whose parentheses are open, and the lowest place of a symbol found misused.
 #[derive(Drop)]
 pub struct Uses {
-    frames: [Frame; 32768],
-    depth: usize,
+    frames: Row<Frame, DEEPEST>,
     lowest: Option<usize>,
-    ghost room: { length frames ≡ 32768 },
-    ghost deep: { depth ≤ 32768 },
 }

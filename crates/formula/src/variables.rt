@@ -1,5 +1,5 @@
 // The variables of a formula in the order of their first occurrence, as parts of its text.
-ghost use Rattle.std.specs.Prelude.{◌≡◌, ◌≤◌, length};
+use row::Row;
 
 mod methods;
 
@@ -11,8 +11,5 @@ pub struct Span {
 
 #[derive(Clone, Copy)]
 pub struct Variables {
-    spans: [Span; 16],
-    count: usize,
-    ghost room: { length spans ≡ 16 },
-    ghost few: { count ≤ 16 },
+    spans: Row<Span, 16>,
 }

@@ -1,17 +1,17 @@
 -- A formula cut out of a text, from its first byte to its dot, has the same tokens alone.
 use Rattle.std.proofs.Common.{◌≡◌, ℕ, zero, suc, ◌+◌, ◌-◌, ◌<◌, ◌≤◌, Bool, true, false, cond, ◌&&◌, eqb, ltb, ◌⊎◌, List, [], ◌∷◌, ◌++◌, length, take, drop, IfSome, Some, None, Option, sym, refl, ap, ◌∙◌, subst, ap₂, inl, inr, arith, length-drop}
 use mathlib.Core.Bool.{false≢true}
+use Rattle.std.specs.List.{prefix_len}
 use Rattle.std.proofs.lemmas.List.{drop-take, take-take, length-take-le}
 use Rattle.std.proofs.lemmas.Bool.{cases_Bool, cond-true, cond-false, cond_both, and_right}
-use Rattle.signature.specs.Words.{lower, upper}
-use Rattle.lexer.specs.Tokens.{Lexeme, first, front_length, length_of_block, block, blank, starts, mark, tokens, tokens_from}
+use Rattle.signature.specs.Words.{lower, upper, wordly}
+use Rattle.lexer.specs.Tokens.{Lexeme, front, first, length_of_block, block, blank, starts, mark, tokens, tokens_from}
 use Rattle.lexer.specs.Next.{end_of}
 use Rattle.lexer.specs.declared.token.Kind.{Kind}
 use Rattle.lexer.specs.declared.token.Kind.TheVariants.{Word, Variable, Open, Close, Comma, Dot, Unequal, Stray}
-use Rattle.lexer.specs.declared.token.First.{First}
-use Rattle.lexer.specs.declared.token.First.TheVariants.{Nothing, Gap, Piece}
-use Rattle.lexer.specs.declared.token.Stretch.TheVariants.{Wordly}
-use Rattle.lexer.proofs.Lexing.{Moves, first_moves, tokens_gap, tokens_piece, tokens_none}
+use Rattle.lexer.specs.declared.token.Front.{Front}
+use Rattle.lexer.specs.declared.token.Front.TheVariants.{Gap, Piece}
+use Rattle.lexer.proofs.Lexing.{Moves, front_moves, tokens_gap, tokens_piece, tokens_none}
 use Rattle.lexer.proofs.Cuts.{reach, first_cut}
 use Rattle.grammar.specs.Kinds.{code, same_kind}
 use Rattle.grammar.specs.Fits.{Complete}
@@ -47,7 +47,7 @@ tail_same e = cc
 
 -- tokens end behind the place from which they are read
 module _ (bs : List ℕ) (n : ℕ) (t : Lexeme) (ts rest : List Lexeme) (start : ℕ) (is : tokens_from bs n ≡ t ∷ (ts ++ rest)) where
-  from_piece : (kind : Kind) (m : ℕ) → first bs ≡ Piece kind m → 1 ≤ m → m ≤ length bs → ((u : Lexeme) (us : List Lexeme) → tokens_from (drop m bs) (n + m) ≡ u ∷ (us ++ rest) → n + m < end_behind (end_of t) (u ∷ us)) → n < end_behind start (t ∷ ts)
+  from_piece : (kind : Kind) (m : ℕ) → first bs ≡ Some (Piece kind m) → 1 ≤ m → m ≤ length bs → ((u : Lexeme) (us : List Lexeme) → tokens_from (drop m bs) (n + m) ≡ u ∷ (us ++ rest) → n + m < end_behind (end_of t) (u ∷ us)) → n < end_behind start (t ∷ ts)
   from_piece kind m e some within ih = by ts refl
     where
       all : record { kind = kind; bytes = take m bs; place = n } ∷ tokens_from (drop m bs) (n + m) ≡ t ∷ (ts ++ rest)
@@ -63,14 +63,13 @@ module _ (bs : List ℕ) (n : ℕ) (t : Lexeme) (ts rest : List Lexeme) (start :
 ends_after : (fuel : ℕ) (bs : List ℕ) (n : ℕ) (t : Lexeme) (ts rest : List Lexeme) (start : ℕ) → length bs < fuel → tokens_from bs n ≡ t ∷ (ts ++ rest) → n < end_behind start (t ∷ ts)
 ends_after zero bs n t ts rest start h is = absurd (omega arith)
 ends_after (suc fuel) [] n t ts rest start h is = nil_cons (sym (tokens_none n) ∙ is)
-ends_after (suc fuel) (b ∷ bs) n t ts rest start h is = by (first (b ∷ bs)) refl (first_moves b bs) (λ cs m u us e. ends_after fuel cs m u us rest e)
+ends_after (suc fuel) (b ∷ bs) n t ts rest start h is = by (front b bs) refl (front_moves b bs) (λ cs m u us e. ends_after fuel cs m u us rest e)
   where
-    by : (f : First) → first (b ∷ bs) ≡ f → Moves (length (b ∷ bs)) f → ((cs : List ℕ) (m : ℕ) (u : Lexeme) (us : List Lexeme) (e : ℕ) → length cs < fuel → tokens_from cs m ≡ u ∷ (us ++ rest) → m < end_behind e (u ∷ us)) → n < end_behind start (t ∷ ts)
-    by Nothing e m ih = absurd m
+    by : (f : Front) → front b bs ≡ f → Moves (length (b ∷ bs)) f → ((cs : List ℕ) (m : ℕ) (u : Lexeme) (us : List Lexeme) (e : ℕ) → length cs < fuel → tokens_from cs m ≡ u ∷ (us ++ rest) → m < end_behind e (u ∷ us)) → n < end_behind start (t ∷ ts)
     by (Gap k) e m ih =
-        let r = ih (drop k (b ∷ bs)) (n + k) t ts start (omega (arith, length-drop k (b ∷ bs), m.0, m.1)) (sym (tokens_gap (b ∷ bs) n k e) ∙ is) in
+        let r = ih (drop k (b ∷ bs)) (n + k) t ts start (omega (arith, length-drop k (b ∷ bs), m.0, m.1)) (sym (tokens_gap (b ∷ bs) n k (ap Some e)) ∙ is) in
         omega (arith, r)
-    by (Piece kind k) e m ih = from_piece (b ∷ bs) n t ts rest start is kind k e m.0 m.1 (λ u us i. ih (drop k (b ∷ bs)) (n + k) u us (end_of t) (omega (arith, length-drop k (b ∷ bs), m.0, m.1)) i)
+    by (Piece kind k) e m ih = from_piece (b ∷ bs) n t ts rest start is kind k (ap Some e) m.0 m.1 (λ u us i. ih (drop k (b ∷ bs)) (n + k) u us (end_of t) (omega (arith, length-drop k (b ∷ bs), m.0, m.1)) i)
 
 -- a dot is one byte, and stands alone as well
 gap_piece : {A : Type 0} {n m : ℕ} {k : Kind} → Gap n ≡ Piece k m → A
@@ -91,12 +90,12 @@ other_kind k n m e h = absurd (h (ap code (piece_kind e)))
 
 record OneDot (b m : ℕ) : Type 0 where
   one : m ≡ 1
-  alone : first (b ∷ []) ≡ Piece Dot 1
+  alone : front b [] ≡ Piece Dot 1
 
-dot_alone : (b : ℕ) (bs : List ℕ) (m : ℕ) → first (b ∷ bs) ≡ Piece Dot m → OneDot b m
+dot_alone : (b : ℕ) (bs : List ℕ) (m : ℕ) → front b bs ≡ Piece Dot m → OneDot b m
 dot_alone b bs m e0 = at_blank (cases_Bool (blank b))
   where
-    at_upper : blank b ≡ false → eqb b 37 ≡ false → lower b ≡ false → (upper b ≡ true) ⊎ (upper b ≡ false) → cond (upper b) (Piece Variable (1 + front_length Wordly bs)) (Piece (mark b) 1) ≡ Piece Dot m → OneDot b m
+    at_upper : blank b ≡ false → eqb b 37 ≡ false → lower b ≡ false → (upper b ≡ true) ⊎ (upper b ≡ false) → cond (upper b) (Piece Variable (1 + prefix_len wordly bs)) (Piece (mark b) 1) ≡ Piece Dot m → OneDot b m
     at_upper x y l (inl t) e = other_kind Variable _ m (sym (cond-true _ _ _ t) ∙ e) (λ z. omega arith)
     at_upper x y l (inr t) e =
         let here : Piece (mark b) 1 ≡ Piece Dot m = sym (cond-false _ _ _ t) ∙ e in
@@ -105,15 +104,15 @@ dot_alone b bs m e0 = at_blank (cases_Bool (blank b))
           alone = cond-false _ _ _ x ∙ cond-false _ _ _ y ∙ cond-false _ _ _ (and_right (eqb b 47) false refl) ∙ cond-false _ _ _ (and_right (eqb b 33) false refl) ∙ cond-false _ _ _ l ∙ cond-false _ _ _ t ∙ ap (λ k. Piece k 1) (piece_kind here);
         }
 
-    at_lower : blank b ≡ false → eqb b 37 ≡ false → (lower b ≡ true) ⊎ (lower b ≡ false) → cond (lower b) (Piece Word (1 + front_length Wordly bs)) (cond (upper b) (Piece Variable (1 + front_length Wordly bs)) (Piece (mark b) 1)) ≡ Piece Dot m → OneDot b m
+    at_lower : blank b ≡ false → eqb b 37 ≡ false → (lower b ≡ true) ⊎ (lower b ≡ false) → cond (lower b) (Piece Word (1 + prefix_len wordly bs)) (cond (upper b) (Piece Variable (1 + prefix_len wordly bs)) (Piece (mark b) 1)) ≡ Piece Dot m → OneDot b m
     at_lower x y (inl t) e = other_kind Word _ m (sym (cond-true _ _ _ t) ∙ e) (λ z. omega arith)
     at_lower x y (inr t) e = at_upper x y t (cases_Bool (upper b)) (sym (cond-false _ _ _ t) ∙ e)
 
-    at_unequal : blank b ≡ false → eqb b 37 ≡ false → ((eqb b 33 && starts 61 bs) ≡ true) ⊎ ((eqb b 33 && starts 61 bs) ≡ false) → cond (eqb b 33 && starts 61 bs) (Piece Unequal 2) (cond (lower b) (Piece Word (1 + front_length Wordly bs)) (cond (upper b) (Piece Variable (1 + front_length Wordly bs)) (Piece (mark b) 1))) ≡ Piece Dot m → OneDot b m
+    at_unequal : blank b ≡ false → eqb b 37 ≡ false → ((eqb b 33 && starts 61 bs) ≡ true) ⊎ ((eqb b 33 && starts 61 bs) ≡ false) → cond (eqb b 33 && starts 61 bs) (Piece Unequal 2) (cond (lower b) (Piece Word (1 + prefix_len wordly bs)) (cond (upper b) (Piece Variable (1 + prefix_len wordly bs)) (Piece (mark b) 1))) ≡ Piece Dot m → OneDot b m
     at_unequal x y (inl t) e = other_kind Unequal _ m (sym (cond-true _ _ _ t) ∙ e) (λ z. omega arith)
     at_unequal x y (inr t) e = at_lower x y (cases_Bool (lower b)) (sym (cond-false _ _ _ t) ∙ e)
 
-    at_block : blank b ≡ false → eqb b 37 ≡ false → ((eqb b 47 && starts 42 bs) ≡ true) ⊎ ((eqb b 47 && starts 42 bs) ≡ false) → cond (eqb b 47 && starts 42 bs) (block (length_of_block (drop 1 bs))) (cond (eqb b 33 && starts 61 bs) (Piece Unequal 2) (cond (lower b) (Piece Word (1 + front_length Wordly bs)) (cond (upper b) (Piece Variable (1 + front_length Wordly bs)) (Piece (mark b) 1)))) ≡ Piece Dot m → OneDot b m
+    at_block : blank b ≡ false → eqb b 37 ≡ false → ((eqb b 47 && starts 42 bs) ≡ true) ⊎ ((eqb b 47 && starts 42 bs) ≡ false) → cond (eqb b 47 && starts 42 bs) (block (length_of_block (drop 1 bs))) (cond (eqb b 33 && starts 61 bs) (Piece Unequal 2) (cond (lower b) (Piece Word (1 + prefix_len wordly bs)) (cond (upper b) (Piece Variable (1 + prefix_len wordly bs)) (Piece (mark b) 1)))) ≡ Piece Dot m → OneDot b m
     at_block x y (inl t) e = block_dot (length_of_block (drop 1 bs)) m (sym (cond-true _ _ _ t) ∙ e)
     at_block x y (inr t) e = at_unequal x y (cases_Bool (eqb b 33 && starts 61 bs)) (sym (cond-false _ _ _ t) ∙ e)
 
@@ -133,45 +132,44 @@ module _ (fuel b : ℕ) (bs : List ℕ) (n k : ℕ) (t : Lexeme) (ts rest : List
   cut_list : (m : ℕ) → m ≤ k → drop m (take k xs) ≡ take (k - m) (drop m xs)
   cut_list m h = let size : m + (k - m) ≡ k = omega arith in ap (λ i. drop m (take i xs)) (sym size) ∙ drop-take m (k - m) xs
 
-  same_first : (m : ℕ) (f : First) → first xs ≡ f → reach f ≡ m → 1 ≤ m → m < k → first (take k xs) ≡ f
+  same_first : (m : ℕ) (f : Front) → front b bs ≡ f → reach f ≡ m → 1 ≤ m → m < k → first (take k xs) ≡ Some f
   same_first m f e r some less = at_size k refl
     where
-      at_size : (i : ℕ) → k ≡ i → first (take k xs) ≡ f
+      at_size : (i : ℕ) → k ≡ i → first (take k xs) ≡ Some f
       at_size zero z = absurd (omega arith)
-      at_size (suc j) z = ap (λ i. first (take i xs)) z ∙ first_cut b bs j (omega arith) (subst (λ g. reach g ≤ j) (sym e) (omega arith)) ∙ e
+      at_size (suc j) z = ap (λ i. first (take i xs)) z ∙ first_cut b bs j (omega arith) (subst (λ g. reach g ≤ j) (sym e) (omega arith)) ∙ ap Some e
 
-  at_gap : (m : ℕ) → first xs ≡ Gap m → 1 ≤ m → m < k → (tokens_from (take (k - m) (drop m xs)) (n + m) ≡ t ∷ ts) → tokens_from (take k xs) n ≡ t ∷ ts
+  at_gap : (m : ℕ) → front b bs ≡ Gap m → 1 ≤ m → m < k → (tokens_from (take (k - m) (drop m xs)) (n + m) ≡ t ∷ ts) → tokens_from (take k xs) n ≡ t ∷ ts
   at_gap m e some less ih = tokens_gap (take k xs) n m (same_first m (Gap m) e refl some less) ∙ ap (λ cs. tokens_from cs (n + m)) (cut_list m (omega arith)) ∙ ih
 
-  at_last : (kind : Kind) (m : ℕ) → first xs ≡ Piece kind m → 1 ≤ m → m ≤ length xs → ts ≡ [] → t.kind ≡ Dot → tokens_from (take k xs) n ≡ t ∷ ts
+  at_last : (kind : Kind) (m : ℕ) → front b bs ≡ Piece kind m → 1 ≤ m → m ≤ length xs → ts ≡ [] → t.kind ≡ Dot → tokens_from (take k xs) n ≡ t ∷ ts
   at_last kind m e some within none dotted =
-      let all : record { kind = kind; bytes = take m xs; place = n } ∷ tokens_from (drop m xs) (n + m) ≡ t ∷ (ts ++ rest) = sym (tokens_piece xs n kind m e) ∙ is in
+      let all : record { kind = kind; bytes = take m xs; place = n } ∷ tokens_from (drop m xs) (n + m) ≡ t ∷ (ts ++ rest) = sym (tokens_piece xs n kind m (ap Some e)) ∙ is in
       let is-dot : kind ≡ Dot = ap (λ u. u.kind) (head_same all) ∙ dotted in
       let one = dot_alone b bs m (e ∙ ap (λ i. Piece i m) is-dot) in
       let end : end_of t ≡ n + m = ap end_of (sym (head_same all)) ∙ ap (λ i. n + i) (length-take-le m xs within) in
       let size : k ≡ 1 = omega (arith, ends_none none, end, one.one) in
-      ap (λ i. tokens_from (take i xs) n) size ∙ tokens_piece (b ∷ []) n Dot 1 one.alone ∙ ap₂ ◌∷◌ (ap₂ (λ (i : Kind) (j : ℕ). record { kind = i; bytes = take j xs; place = n }) (sym is-dot) (sym one.one) ∙ head_same all) (tokens_none (n + 1) ∙ sym none)
+      ap (λ i. tokens_from (take i xs) n) size ∙ tokens_piece (b ∷ []) n Dot 1 (ap Some one.alone) ∙ ap₂ ◌∷◌ (ap₂ (λ (i : Kind) (j : ℕ). record { kind = i; bytes = take j xs; place = n }) (sym is-dot) (sym one.one) ∙ head_same all) (tokens_none (n + 1) ∙ sym none)
     where
       ends_none : ts ≡ [] → end_of t ≡ n + k
       ends_none z = ap (end_behind (end_of t)) (sym z) ∙ ends
 
-  at_piece : (kind : Kind) (m : ℕ) → first xs ≡ Piece kind m → 1 ≤ m → m < k → (tokens_from (drop m xs) (n + m) ≡ ts ++ rest → tokens_from (take (k - m) (drop m xs)) (n + m) ≡ ts) → tokens_from (take k xs) n ≡ t ∷ ts
+  at_piece : (kind : Kind) (m : ℕ) → front b bs ≡ Piece kind m → 1 ≤ m → m < k → (tokens_from (drop m xs) (n + m) ≡ ts ++ rest → tokens_from (take (k - m) (drop m xs)) (n + m) ≡ ts) → tokens_from (take k xs) n ≡ t ∷ ts
   at_piece kind m e some less ih =
-      let all : record { kind = kind; bytes = take m xs; place = n } ∷ tokens_from (drop m xs) (n + m) ≡ t ∷ (ts ++ rest) = sym (tokens_piece xs n kind m e) ∙ is in
+      let all : record { kind = kind; bytes = take m xs; place = n } ∷ tokens_from (drop m xs) (n + m) ≡ t ∷ (ts ++ rest) = sym (tokens_piece xs n kind m (ap Some e)) ∙ is in
       tokens_piece (take k xs) n kind m (same_first m (Piece kind m) e refl some less) ∙ ap₂ ◌∷◌ (ap (λ cs. record { kind = kind; bytes = cs; place = n }) (take-take m k xs (omega arith)) ∙ head_same all) (ap (λ cs. tokens_from cs (n + m)) (cut_list m (omega arith)) ∙ ih (tail_same all))
 
 pub cut_tokens : (fuel : ℕ) (bs : List ℕ) (n k : ℕ) (t : Lexeme) (ts rest : List Lexeme) → length bs < fuel → Dotted (t ∷ ts) → tokens_from bs n ≡ t ∷ (ts ++ rest) → end_behind n (t ∷ ts) ≡ n + k → tokens_from (take k bs) n ≡ t ∷ ts
 cut_tokens zero bs n k t ts rest h d is ends = absurd (omega arith)
 cut_tokens (suc fuel) [] n k t ts rest h d is ends = nil_cons (sym (tokens_none n) ∙ is)
-cut_tokens (suc fuel) (b ∷ bs) n k t ts rest h d is ends = by (first (b ∷ bs)) refl (first_moves b bs) d (λ cs m i u us. cut_tokens fuel cs m i u us rest)
+cut_tokens (suc fuel) (b ∷ bs) n k t ts rest h d is ends = by (front b bs) refl (front_moves b bs) d (λ cs m i u us. cut_tokens fuel cs m i u us rest)
   where
     shorter : (m : ℕ) → 1 ≤ m → m ≤ length (b ∷ bs) → length (drop m (b ∷ bs)) < fuel
     shorter m some within = omega (arith, length-drop m (b ∷ bs))
 
-    by : (f : First) → first (b ∷ bs) ≡ f → Moves (length (b ∷ bs)) f → Dotted (t ∷ ts) → ((cs : List ℕ) (m i : ℕ) (u : Lexeme) (us : List Lexeme) → length cs < fuel → Dotted (u ∷ us) → tokens_from cs m ≡ u ∷ (us ++ rest) → end_behind m (u ∷ us) ≡ m + i → tokens_from (take i cs) m ≡ u ∷ us) → tokens_from (take k (b ∷ bs)) n ≡ t ∷ ts
-    by Nothing e m d ih = absurd m
+    by : (f : Front) → front b bs ≡ f → Moves (length (b ∷ bs)) f → Dotted (t ∷ ts) → ((cs : List ℕ) (m i : ℕ) (u : Lexeme) (us : List Lexeme) → length cs < fuel → Dotted (u ∷ us) → tokens_from cs m ≡ u ∷ (us ++ rest) → end_behind m (u ∷ us) ≡ m + i → tokens_from (take i cs) m ≡ u ∷ us) → tokens_from (take k (b ∷ bs)) n ≡ t ∷ ts
     by (Gap i) e m d ih =
-        let on = sym (tokens_gap (b ∷ bs) n i e) ∙ is in
+        let on = sym (tokens_gap (b ∷ bs) n i (ap Some e)) ∙ is in
         let less : i < k = omega (arith, ends_after (suc (length (drop i (b ∷ bs)))) (drop i (b ∷ bs)) (n + i) t ts rest n (omega arith) on, ends) in
         at_gap fuel b bs n k t ts rest is ends i e m.0 less (ih (drop i (b ∷ bs)) (n + i) (k - i) t ts (shorter i m.0 m.1) d on (ends ∙ omega arith))
     by (Piece kind i) e m d ih = piece (split d)
@@ -179,7 +177,7 @@ cut_tokens (suc fuel) (b ∷ bs) n k t ts rest h d is ends = by (first (b ∷ bs
         piece : Split t ts → tokens_from (take k (b ∷ bs)) n ≡ t ∷ ts
         piece (ended none dotted) = at_last fuel b bs n k t ts rest is ends kind i e m.0 m.1 none dotted
         piece (goes_on u us some more) =
-            let on = tail_same (sym (tokens_piece (b ∷ bs) n kind i e) ∙ is) ∙ ap (λ vs. vs ++ rest) some in
+            let on = tail_same (sym (tokens_piece (b ∷ bs) n kind i (ap Some e)) ∙ is) ∙ ap (λ vs. vs ++ rest) some in
             let behind : end_behind (n + i) (u ∷ us) ≡ n + k = ap (end_behind (end_of t)) (sym some) ∙ ends in
             let less : i < k = omega (arith, ends_after (suc (length (drop i (b ∷ bs)))) (drop i (b ∷ bs)) (n + i) u us rest (end_of t) (omega arith) on, behind) in
             at_piece fuel b bs n k t ts rest is ends kind i e m.0 less (λ z. ih (drop i (b ∷ bs)) (n + i) (k - i) u us (shorter i m.0 m.1) more on (behind ∙ omega arith) ∙ sym some)
@@ -207,17 +205,16 @@ bind_same (Some p) ts us h = h p
 run_anywhere : (fuel : ℕ) (bs : List ℕ) (n m : ℕ) (q : State) → length bs < fuel → run q (tokens_from bs n) ≡ run q (tokens_from bs m)
 run_anywhere zero bs n m q h = absurd (omega arith)
 run_anywhere (suc fuel) [] n m q h = ap (run q) (tokens_none n ∙ sym (tokens_none m))
-run_anywhere (suc fuel) (b ∷ bs) n m q h = by (first (b ∷ bs)) refl (first_moves b bs) (λ cs i j p. run_anywhere fuel cs i j p)
+run_anywhere (suc fuel) (b ∷ bs) n m q h = by (front b bs) refl (front_moves b bs) (λ cs i j p. run_anywhere fuel cs i j p)
   where
-    by : (f : First) → first (b ∷ bs) ≡ f → Moves (length (b ∷ bs)) f → ((cs : List ℕ) (i j : ℕ) (p : State) → length cs < fuel → run p (tokens_from cs i) ≡ run p (tokens_from cs j)) → run q (tokens_from (b ∷ bs) n) ≡ run q (tokens_from (b ∷ bs) m)
-    by Nothing e w ih = absurd w
-    by (Gap k) e w ih = ap (run q) (tokens_gap (b ∷ bs) n k e) ∙ ih (drop k (b ∷ bs)) (n + k) (m + k) q (omega (arith, length-drop k (b ∷ bs), w.0, w.1)) ∙ ap (run q) (sym (tokens_gap (b ∷ bs) m k e))
+    by : (f : Front) → front b bs ≡ f → Moves (length (b ∷ bs)) f → ((cs : List ℕ) (i j : ℕ) (p : State) → length cs < fuel → run p (tokens_from cs i) ≡ run p (tokens_from cs j)) → run q (tokens_from (b ∷ bs) n) ≡ run q (tokens_from (b ∷ bs) m)
+    by (Gap k) e w ih = ap (run q) (tokens_gap (b ∷ bs) n k (ap Some e)) ∙ ih (drop k (b ∷ bs)) (n + k) (m + k) q (omega (arith, length-drop k (b ∷ bs), w.0, w.1)) ∙ ap (run q) (sym (tokens_gap (b ∷ bs) m k (ap Some e)))
     by (Piece kind k) e w ih =
         let short : length (drop k (b ∷ bs)) < fuel = omega (arith, length-drop k (b ∷ bs), w.0, w.1) in
-        ap (run q) (tokens_piece (b ∷ bs) n kind k e)
+        ap (run q) (tokens_piece (b ∷ bs) n kind k (ap Some e))
         ∙ ap (λ o. bind o (λ p. run p (tokens_from (drop k (b ∷ bs)) (n + k)))) (next_anywhere q kind (take k (b ∷ bs)) n m)
         ∙ bind_same (next q (record { kind = kind; bytes = take k (b ∷ bs); place = m })) _ _ (λ p. ih (drop k (b ∷ bs)) (n + k) (m + k) p short)
-        ∙ ap (run q) (sym (tokens_piece (b ∷ bs) m kind k e))
+        ∙ ap (run q) (sym (tokens_piece (b ∷ bs) m kind k (ap Some e)))
 
 -- the machine is done behind a dot only
 abbrev Undone : Option State → Type 0

@@ -9,7 +9,8 @@ use Rattle.grammar.specs.Machine.{expect, spot, next, term_start, is_done}
 use Rattle.grammar.specs.Syntax.{Literal, Sides, sides, Body, bare, wrapped, Parsed, Formula, formula, Is}
 use Rattle.grammar.specs.declared.machine.State.{State}
 use Rattle.grammar.specs.declared.machine.State.TheVariants as state
-use Rattle.grammar.proofs.Same.{same_kind_true, bytes_decide}
+use Rattle.std.proofs.lemmas.Slice.Eq.{bytes_eq-Decides}
+use Rattle.grammar.proofs.Same.{same_kind_true}
 use Rattle.grammar.proofs.Steps.{none_some, some_same, bind, goes, expected, kind_met}
 use Rattle.grammar.proofs.Terms.{term_fore, term_back}
 
@@ -39,7 +40,7 @@ goes_done (t ∷ ts) = refl
 
 pub formula_fore : {ts rest : List Lexeme} {p : Parsed} → Formula ts p rest → goes state.Start ts ≡ Some rest
 formula_fore {rest = rest} (formula {w = w} {d = d} kw cnf ko kn km kr kk b kc kd) =
-    rw (kw, (bytes_decide w.bytes (codes "cnf")).1 cnf, ko, kn, km, kr, kk) (body_fore b rest kc (rw kd (goes_done rest)))
+    rw (kw, (bytes_eq-Decides w.bytes (codes "cnf")).1 cnf, ko, kn, km, kr, kk) (body_fore b rest kc (rw kd (goes_done rest)))
 
 record SidesBack (w : Bool) (ts rest : List Lexeme) : Type 0 where
   body : Literal
@@ -136,4 +137,4 @@ formula_back [] rest e = none_some e
 formula_back (w ∷ ts) rest e =
     let c = expected (same_kind w.kind Word && same_bytes w.bytes (codes "cnf")) state.Opening (λ p. goes p ts) rest e in
     let both = and_parts (same_kind w.kind Word) (same_bytes w.bytes (codes "cnf")) c.0 in
-    with_opening (same_kind_true w.kind Word both.0) ((bytes_decide w.bytes (codes "cnf")).0 both.1) (met state.Opening state.Name Open refl (λ t. refl) ts rest c.1)
+    with_opening (same_kind_true w.kind Word both.0) ((bytes_eq-Decides w.bytes (codes "cnf")).0 both.1) (met state.Opening state.Name Open refl (λ t. refl) ts rest c.1)

@@ -1,7 +1,7 @@
 // The states of reading a formula, token by token.
 mod methods;
 
-pub use methods::{formula_end, is_kind, is_word};
+pub use methods::formula_end;
 
 // Where in the body a term stands: in how many parentheses, on which side, and whether the literal is in parentheses.
 #[derive(Clone, Copy)]

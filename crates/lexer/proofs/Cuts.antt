@@ -1,25 +1,24 @@
 -- What stands first in a text stands first in a front of it that reaches further.
 use Rattle.std.proofs.Common.{◌≡◌, ℕ, zero, suc, ◌+◌, ◌-◌, ◌<◌, ◌≤◌, Bool, true, false, cond, ◌&&◌, eqb, ◌⊎◌, List, [], ◌∷◌, take, drop, Some, None, Option, sym, refl, ap, ◌∙◌, subst, inl, inr, arith}
 use Rattle.std.specs.Option.{option_map}
+use Rattle.std.specs.List.{prefix_len}
 use Rattle.std.proofs.lemmas.List.{drop-take}
 use Rattle.std.proofs.lemmas.Bool.{cases_Bool, cond-true, cond-false, and_right}
-use Rattle.signature.specs.Words.{lower, upper}
-use Rattle.lexer.specs.Tokens.{goes_over, front_length, length_of_block, starts, blank, block, mark, first}
+use Rattle.signature.specs.Words.{lower, upper, wordly}
+use Rattle.lexer.specs.Tokens.{in_line, length_of_block, starts, blank, block, mark, front, first}
 use Rattle.lexer.specs.declared.token.Kind.TheVariants.{Word, Variable, Unequal}
-use Rattle.lexer.specs.declared.token.First.{First}
-use Rattle.lexer.specs.declared.token.First.TheVariants.{Nothing, Gap, Piece}
-use Rattle.lexer.specs.declared.token.Stretch.{Stretch}
-use Rattle.lexer.specs.declared.token.Stretch.TheVariants.{Wordly, Line}
+use Rattle.lexer.specs.declared.token.Front.{Front}
+use Rattle.lexer.specs.declared.token.Front.TheVariants.{Gap, Piece}
 
-front_cut : (s : Stretch) (bs : List ℕ) (j : ℕ) → front_length s bs < j → front_length s (take j bs) ≡ front_length s bs
-front_cut s [] zero h = refl
-front_cut s [] (suc j) h = refl
-front_cut s (b ∷ bs) zero h = absurd (omega arith)
-front_cut s (b ∷ bs) (suc j) h = by (cases_Bool (goes_over s b)) (λ k. front_cut s bs j k)
+front_cut : (p : ℕ → Bool) (bs : List ℕ) (j : ℕ) → prefix_len p bs < j → prefix_len p (take j bs) ≡ prefix_len p bs
+front_cut p [] zero h = refl
+front_cut p [] (suc j) h = refl
+front_cut p (b ∷ bs) zero h = absurd (omega arith)
+front_cut p (b ∷ bs) (suc j) h = by (cases_Bool (p b)) (λ k. front_cut p bs j k)
   where
-    by : (goes_over s b ≡ true) ⊎ (goes_over s b ≡ false) → (front_length s bs < j → front_length s (take j bs) ≡ front_length s bs) → front_length s (b ∷ take j bs) ≡ front_length s (b ∷ bs)
+    by : (p b ≡ true) ⊎ (p b ≡ false) → (prefix_len p bs < j → prefix_len p (take j bs) ≡ prefix_len p bs) → prefix_len p (b ∷ take j bs) ≡ prefix_len p (b ∷ bs)
     by (inl e) ih =
-        let one : front_length s (b ∷ bs) ≡ 1 + front_length s bs = cond-true _ _ _ e in
+        let one : prefix_len p (b ∷ bs) ≡ 1 + prefix_len p bs = cond-true _ _ _ e in
         cond-true _ _ _ e ∙ ap (λ n. 1 + n) (ih (omega (arith, one))) ∙ sym one
     by (inr e) ih = cond-false _ _ _ e ∙ sym (cond-false _ _ _ e)
 
@@ -64,8 +63,7 @@ block_cut (b ∷ bs) (suc j) m e h = by (cases_Bool (eqb b 42 && starts 47 bs)) 
         cond-false _ _ _ (same (omega (arith, two, r.2)) ∙ t) ∙ ap (option_map (λ n. 1 + n)) (ih r.0 r.1 (omega (arith, r.2))) ∙ ap Some (sym r.2)
 
 -- how far it reaches
-abbrev pub reach : First → ℕ
-reach Nothing = 0
+abbrev pub reach : Front → ℕ
 reach (Gap n) = n
 reach (Piece k n) = n
 
@@ -88,7 +86,7 @@ block_none (b ∷ bs) (suc j) e = by (cases_Bool (eqb b 42 && starts 47 bs)) (bl
     by (inr t) ih = cond-false _ _ _ (cut_test j t) ∙ ap (option_map (λ n. 1 + n)) (ih (mapped_none (length_of_block bs) (sym (cond-false _ _ _ t) ∙ e)))
 
 -- a choice between two: the same test, and the same answer on the side that is taken
-pick : (j : ℕ) (t u : Bool) (f g f' g' : First) → u ≡ t → (reach f ≤ j → g ≡ f) → (reach f' ≤ j → g' ≡ f') → reach (cond t f f') ≤ j → cond u g g' ≡ cond t f f'
+pick : (j : ℕ) (t u : Bool) (f g f' g' : Front) → u ≡ t → (reach f ≤ j → g ≡ f) → (reach f' ≤ j → g' ≡ f') → reach (cond t f f') ≤ j → cond u g g' ≡ cond t f f'
 pick j true u f g f' g' e h k r = cond-true u g g' e ∙ h r
 pick j false u f g f' g' e h k r = cond-false u g g' e ∙ k r
 
@@ -108,12 +106,15 @@ block_same j bs some r = by (length_of_block (drop 1 bs)) refl
         ap block (ap length_of_block cut_is ∙ block_cut (drop 1 bs) (j - 1) m e (omega arith) ∙ sym e)
 
 -- what ends before the cut is not changed by it
-pub first_cut : (b : ℕ) (bs : List ℕ) (j : ℕ) → 1 ≤ j → reach (first (b ∷ bs)) ≤ j → first (b ∷ take j bs) ≡ first (b ∷ bs)
-first_cut b bs j some =
+pub front_of_cut : (b : ℕ) (bs : List ℕ) (j : ℕ) → 1 ≤ j → reach (front b bs) ≤ j → front b (take j bs) ≡ front b bs
+front_of_cut b bs j some =
     pick j (blank b) (blank b) (Gap 1) (Gap 1) _ _ refl (λ _. refl)
-    (pick j (eqb b 37) (eqb b 37) (Gap (1 + front_length Line bs)) (Gap (1 + front_length Line (take j bs))) _ _ refl (λ r. ap (λ n. Gap (1 + n)) (front_cut Line bs j (omega arith)))
+    (pick j (eqb b 37) (eqb b 37) (Gap (1 + prefix_len in_line bs)) (Gap (1 + prefix_len in_line (take j bs))) _ _ refl (λ r. ap (λ n. Gap (1 + n)) (front_cut in_line bs j (omega arith)))
     (pick j (eqb b 47 && starts 42 bs) (eqb b 47 && starts 42 (take j bs)) (block (length_of_block (drop 1 bs))) (block (length_of_block (drop 1 (take j bs)))) _ _ (ap (λ t. eqb b 47 && t) (starts_cut 42 bs j some)) (block_same j bs some)
     (pick j (eqb b 33 && starts 61 bs) (eqb b 33 && starts 61 (take j bs)) (Piece Unequal 2) (Piece Unequal 2) _ _ (ap (λ t. eqb b 33 && t) (starts_cut 61 bs j some)) (λ _. refl)
-    (pick j (lower b) (lower b) (Piece Word (1 + front_length Wordly bs)) (Piece Word (1 + front_length Wordly (take j bs))) _ _ refl (λ r. ap (λ n. Piece Word (1 + n)) (front_cut Wordly bs j (omega arith)))
-    (pick j (upper b) (upper b) (Piece Variable (1 + front_length Wordly bs)) (Piece Variable (1 + front_length Wordly (take j bs))) (Piece (mark b) 1) (Piece (mark b) 1) refl (λ r. ap (λ n. Piece Variable (1 + n)) (front_cut Wordly bs j (omega arith)))
+    (pick j (lower b) (lower b) (Piece Word (1 + prefix_len wordly bs)) (Piece Word (1 + prefix_len wordly (take j bs))) _ _ refl (λ r. ap (λ n. Piece Word (1 + n)) (front_cut wordly bs j (omega arith)))
+    (pick j (upper b) (upper b) (Piece Variable (1 + prefix_len wordly bs)) (Piece Variable (1 + prefix_len wordly (take j bs))) (Piece (mark b) 1) (Piece (mark b) 1) refl (λ r. ap (λ n. Piece Variable (1 + n)) (front_cut wordly bs j (omega arith)))
     (λ _. refl))))))
+
+pub first_cut : (b : ℕ) (bs : List ℕ) (j : ℕ) → 1 ≤ j → reach (front b bs) ≤ j → first (b ∷ take j bs) ≡ first (b ∷ bs)
+first_cut b bs j some far = ap Some (front_of_cut b bs j some far)

@@ -1,14 +1,14 @@
 -- What a slice pattern takes off the front of a text.
-use Rattle.std.proofs.Common.{◌≡◌, ℕ, ◌+◌, ◌-◌, ◌<◌, ◌≤◌, true, false, ◌&&◌, eqb, ◌⊎◌, List, [], ◌∷◌, length, get_or, take, drop, Some, None, Option, sym, refl, ap, ◌∙◌, inl, inr, arith, length-drop}
+use Rattle.std.proofs.Common.{◌≡◌, ℕ, ◌+◌, ◌-◌, ◌<◌, ◌≤◌, false, ◌&&◌, eqb, ◌⊎◌, List, [], ◌∷◌, length, get_or, take, drop, Some, None, Option, sym, refl, ap, ◌∙◌, inl, inr, arith, length-drop}
 use Rattle.std.specs.Option.{option_map}
+use Rattle.std.specs.List.{prefix_len}
+use Rattle.signature.specs.Words.{wordly}
 use Rattle.std.proofs.lemmas.List.{take_rest}
-use Rattle.std.proofs.lemmas.Bool.{eq-eqb, ne_eqb, cond-true, cond-false, and_left, and_right}
+use Rattle.std.proofs.lemmas.Bool.{eq-eqb, ne_eqb, cond-false, and_left, and_right}
 use Rattle.std.proofs.lemmas.Bool.Decides.{nat_tests}
-use Rattle.lexer.specs.Tokens.{goes_over, front_length, length_of_block, starts, block, first}
+use Rattle.lexer.specs.Tokens.{in_line, length_of_block, starts, block, first}
 use Rattle.lexer.specs.declared.token.Kind.TheVariants.{Word, Variable}
-use Rattle.lexer.specs.declared.token.First.TheVariants.{Gap, Piece}
-use Rattle.lexer.specs.declared.token.Stretch.TheVariants.{Wordly, Line}
-use Rattle.lexer.specs.declared.token.Stretch.{Stretch}
+use Rattle.lexer.specs.declared.token.Front.TheVariants.{Gap, Piece}
 
 pub nothing : (xs : List ℕ) → length xs < 1 → xs ≡ []
 nothing [] h = refl
@@ -21,16 +21,6 @@ head_tail (x ∷ xs) h = refl
 -- the tail that a pattern binds behind n bytes
 pub tail_length : (n : ℕ) (xs : List ℕ) → length (take (length xs - n) (drop n xs)) ≡ length xs - n
 tail_length n xs = ap length (take_rest xs n) ∙ length-drop n xs
-
--- one byte more, or the end of the stretch
-pub front_more : (s : Stretch) (xs : List ℕ) → 0 < length xs → goes_over s (get_or xs 0 0) ≡ true → front_length s xs ≡ 1 + front_length s (take (length xs - 1) (drop 1 xs))
-front_more s xs h e = ap (front_length s) (head_tail xs h) ∙ cond-true _ _ _ e ∙ ap (λ t. 1 + front_length s t) (sym (take_rest xs 1))
-
-pub front_ends : (s : Stretch) (xs : List ℕ) → 0 < length xs → goes_over s (get_or xs 0 0) ≡ false → front_length s xs ≡ 0
-front_ends s xs h e = ap (front_length s) (head_tail xs h) ∙ cond-false _ _ _ e
-
-pub front_none : (s : Stretch) (xs : List ℕ) → length xs < 1 → front_length s xs ≡ 0
-front_none s xs h = ap (front_length s) (nothing xs h)
 
 pub block_none : (xs : List ℕ) → length xs < 1 → length_of_block xs ≡ None
 block_none xs h = ap length_of_block (nothing xs h)
@@ -60,19 +50,19 @@ shifted m None = refl
 shifted m (Some k) = ap Some (omega arith)
 
 -- what stands first, by the first bytes
-pub first_comment : (xs : List ℕ) → 0 < length xs → get_or xs 0 0 ≡ 37 → first xs ≡ Gap (1 + front_length Line (take (length xs - 1) (drop 1 xs)))
+pub first_comment : (xs : List ℕ) → 0 < length xs → get_or xs 0 0 ≡ 37 → first xs ≡ Some (Gap (1 + prefix_len in_line (take (length xs - 1) (drop 1 xs))))
 first_comment [] h e = absurd (omega arith)
 first_comment (b ∷ bs) h e = rw (e, take_rest (b ∷ bs) 1)
 
-pub first_block : (xs : List ℕ) → 1 < length xs → get_or xs 0 0 ≡ 47 → get_or xs 1 0 ≡ 42 → first xs ≡ block (length_of_block (take (length xs - 2) (drop 2 xs)))
+pub first_block : (xs : List ℕ) → 1 < length xs → get_or xs 0 0 ≡ 47 → get_or xs 1 0 ≡ 42 → first xs ≡ Some (block (length_of_block (take (length xs - 2) (drop 2 xs))))
 first_block [] h p q = absurd (omega arith)
 first_block (b ∷ []) h p q = absurd (omega arith)
 first_block (b ∷ (c ∷ cs)) h p q = rw (p, q, take_rest (b ∷ (c ∷ cs)) 2)
 
-pub first_word : (xs : List ℕ) → 0 < length xs → 97 ≤ get_or xs 0 0 → get_or xs 0 0 ≤ 122 → first xs ≡ Piece Word (1 + front_length Wordly (take (length xs - 1) (drop 1 xs)))
+pub first_word : (xs : List ℕ) → 0 < length xs → 97 ≤ get_or xs 0 0 → get_or xs 0 0 ≤ 122 → first xs ≡ Some (Piece Word (1 + prefix_len wordly (take (length xs - 1) (drop 1 xs))))
 first_word [] h lo hi = absurd (omega arith)
 first_word (b ∷ bs) h lo hi = let e = take_rest (b ∷ bs) 1 in grind (arith, nat_tests)
 
-pub first_variable : (xs : List ℕ) → 0 < length xs → 65 ≤ get_or xs 0 0 → get_or xs 0 0 ≤ 90 → first xs ≡ Piece Variable (1 + front_length Wordly (take (length xs - 1) (drop 1 xs)))
+pub first_variable : (xs : List ℕ) → 0 < length xs → 65 ≤ get_or xs 0 0 → get_or xs 0 0 ≤ 90 → first xs ≡ Some (Piece Variable (1 + prefix_len wordly (take (length xs - 1) (drop 1 xs))))
 first_variable [] h lo hi = absurd (omega arith)
 first_variable (b ∷ bs) h lo hi = let e = take_rest (b ∷ bs) 1 in grind (arith, nat_tests)

@@ -1,13 +1,12 @@
 -- A text as its tokens: what stands first in it, again and again.
 use Rattle.std.specs.Prelude.{ℕ, zero, suc, ◌+◌, Bool, false, cond, not, ◌&&◌, ◌||◌, List, [], ◌∷◌, length, take, drop, Some, None, Option, ◌==◌}
 use Rattle.std.specs.Option.{option_map}
+use Rattle.std.specs.List.{prefix_len}
 use Rattle.signature.specs.Words.{lower, upper, wordly}
 use Rattle.lexer.specs.declared.token.Kind.{Kind}
 use Rattle.lexer.specs.declared.token.Kind.TheVariants.{Word, Variable, Open, Close, Comma, Dot, Equal, Unequal, Stray}
-use Rattle.lexer.specs.declared.token.Stretch.{Stretch}
-use Rattle.lexer.specs.declared.token.Stretch.TheVariants.{Wordly, Line}
-use Rattle.lexer.specs.declared.token.First.{First}
-use Rattle.lexer.specs.declared.token.First.TheVariants.{Nothing, Gap, Piece}
+use Rattle.lexer.specs.declared.token.Front.{Front}
+use Rattle.lexer.specs.declared.token.Front.TheVariants.{Gap, Piece}
 
 -- space, tab, carriage return, line feed
 abbrev pub blank : ℕ → Bool
@@ -17,15 +16,9 @@ abbrev pub starts : ℕ → List ℕ → Bool
 starts c [] = false
 starts c (b ∷ bs) = b == c
 
--- a word goes on over letters, digits and underscores; a comment from % over all but the line's end
-abbrev pub goes_over : Stretch → ℕ → Bool
-goes_over Wordly b = wordly b
-goes_over Line b = not (b == 10)
-
--- how many bytes at the front it goes over
-abbrev pub front_length : Stretch → List ℕ → ℕ
-front_length s [] = 0
-front_length s (b ∷ bs) = cond (goes_over s b) (1 + front_length s bs) 0
+-- a comment from % goes over all but the line's end, as a word goes over what is wordly
+abbrev pub in_line : ℕ → Bool
+in_line b = not (b == 10)
 
 -- how many bytes there are up to the first star with a slash behind it, both counted
 abbrev pub length_of_block : List ℕ → Option ℕ
@@ -37,21 +30,24 @@ abbrev pub mark : ℕ → Kind
 mark b = cond (b == 40) Open (cond (b == 41) Close (cond (b == 44) Comma (cond (b == 46) Dot (cond (b == 61) Equal Stray))))
 
 -- a block comment, or the stray slash of one that is never closed
-abbrev pub block : Option ℕ → First
+abbrev pub block : Option ℕ → Front
 block None = Piece Stray 1
 block (Some n) = Gap (2 + n)
 
--- what stands first in a text, and how many bytes it has
-abbrev pub first : List ℕ → First
-first [] = Nothing
-first (b ∷ bs) =
+-- what stands first where there is a byte, and how many bytes it has
+abbrev pub front : ℕ → List ℕ → Front
+front b bs =
     cond (blank b) (Gap 1)
-    (cond (b == 37) (Gap (1 + front_length Line bs))
+    (cond (b == 37) (Gap (1 + prefix_len in_line bs))
     (cond (b == 47 && starts 42 bs) (block (length_of_block (drop 1 bs)))
     (cond (b == 33 && starts 61 bs) (Piece Unequal 2)
-    (cond (lower b) (Piece Word (1 + front_length Wordly bs))
-    (cond (upper b) (Piece Variable (1 + front_length Wordly bs))
+    (cond (lower b) (Piece Word (1 + prefix_len wordly bs))
+    (cond (upper b) (Piece Variable (1 + prefix_len wordly bs))
     (Piece (mark b) 1))))))
+
+abbrev pub first : List ℕ → Option Front
+first [] = None
+first (b ∷ bs) = Some (front b bs)
 
 -- a token with its bytes and the place of its first byte in the text
 pub record Lexeme : Type 0 where
@@ -60,10 +56,10 @@ pub record Lexeme : Type 0 where
   pub place : ℕ
 
 -- what stands first, and then what `later` finds behind it
-abbrev pub lexed : (List ℕ → ℕ → List Lexeme) → List ℕ → ℕ → First → List Lexeme
-lexed later bs n Nothing = []
-lexed later bs n (Gap m) = later (drop m bs) (n + m)
-lexed later bs n (Piece kind m) = record { kind = kind; bytes = take m bs; place = n } ∷ later (drop m bs) (n + m)
+abbrev pub lexed : (List ℕ → ℕ → List Lexeme) → List ℕ → ℕ → Option Front → List Lexeme
+lexed later bs n None = []
+lexed later bs n (Some (Gap m)) = later (drop m bs) (n + m)
+lexed later bs n (Some (Piece kind m)) = record { kind = kind; bytes = take m bs; place = n } ∷ later (drop m bs) (n + m)
 
 -- the tokens of the bytes from place n on; k bounds the recursion, and one more than the number of bytes suffices
 abbrev pub lex : ℕ → List ℕ → ℕ → List Lexeme

@@ -1,8 +1,11 @@
 // What stands first in a text.
 ghost use Rattle.std.specs.Prelude.{◌≡◌, ◌+◌, ◌<◌, ◌≤◌, length, IfSome};
-ghost use Rattle.lexer.specs.Tokens.{goes_over, front_length, length_of_block, mark, first as first_of};
+ghost use Rattle.std.specs.List.{prefix_len};
+ghost use Rattle.signature.specs.Words.{wordly};
+ghost use Rattle.lexer.specs.Tokens.{in_line, length_of_block, mark, first as first_of};
 
-use crate::token::{First, Kind, Stretch};
+use crate::token::{Front, Kind};
+use signature::words::is_wordly;
 
 // How many bytes a block comment has behind its opening, or None where it is never closed.
 fn block_length(text: &[u8]) -> Option<usize>
@@ -23,32 +26,20 @@ fn block_length(text: &[u8]) -> Option<usize>
     }
 }
 
-impl Stretch {
-    fn goes_over(self, b: u8) -> bool
-        ensures { result ≡ goes_over self b }
-    {
-        match self {
-            Stretch::Wordly => matches!(b, b'a'..=b'z' | b'A'..=b'Z' | b'0'..=b'9' | b'_'),
-            Stretch::Line => b != b'\n',
-        }
-    }
+// How many bytes at the front of a text a word goes on over.
+fn word_length(text: &[u8]) -> usize
+    ensures is { result ≡ prefix_len wordly text.now }
+    ensures within { result ≤ length text.now }
+{
+    text.iter().take_while(|byte| is_wordly(**byte)).count()
+}
 
-    // How many bytes at the front of a text it goes over.
-    fn front_length(self, text: &[u8]) -> usize
-        ensures is { result ≡ front_length self text.now }
-        ensures within { result ≤ length text.now }
-    {
-        let mut n = 0;
-        let mut rest = text;
-        while let [b, tail @ ..] = rest {
-            if !self.goes_over(*b) {
-                return n;
-            }
-            n += 1;
-            rest = tail;
-        }
-        n
-    }
+// How many bytes at the front of a text stand before the line's end.
+fn line_length(text: &[u8]) -> usize
+    ensures is { result ≡ prefix_len in_line text.now }
+    ensures within { result ≤ length text.now }
+{
+    text.iter().take_while(|byte| **byte != b'\n').count()
 }
 
 // The token that a single byte is.
@@ -65,27 +56,21 @@ fn mark_of(b: u8) -> Kind
     }
 }
 
-// The separator or token at the front of a text.
-pub fn first(text: &[u8]) -> First
+// The separator or token at the front of a text, if there is any byte.
+pub fn first(text: &[u8]) -> Option<Front>
     ensures { result ≡ first_of text.now }
 {
     match text {
-        [] => First::Nothing,
-        [b' ' | b'\t' | b'\r' | b'\n', ..] => First::Gap(1),
-        [b'%', rest @ ..] => First::Gap(1 + Stretch::Line.front_length(rest)),
+        [] => None,
+        [b' ' | b'\t' | b'\r' | b'\n', ..] => Some(Front::Gap(1)),
+        [b'%', rest @ ..] => Some(Front::Gap(1 + line_length(rest))),
         [b'/', b'*', rest @ ..] => match block_length(rest) {
-            Some(n) => First::Gap(2 + n),
-            None => First::Piece(Kind::Stray, 1),
+            Some(n) => Some(Front::Gap(2 + n)),
+            None => Some(Front::Piece(Kind::Stray, 1)),
         },
-        [b'!', b'=', ..] => First::Piece(Kind::Unequal, 2),
-        [b'a'..=b'z', rest @ ..] => First::Piece(
-            Kind::Word,
-            1 + Stretch::Wordly.front_length(rest),
-        ),
-        [b'A'..=b'Z', rest @ ..] => First::Piece(
-            Kind::Variable,
-            1 + Stretch::Wordly.front_length(rest),
-        ),
-        [b, ..] => First::Piece(mark_of(*b), 1),
+        [b'!', b'=', ..] => Some(Front::Piece(Kind::Unequal, 2)),
+        [b'a'..=b'z', rest @ ..] => Some(Front::Piece(Kind::Word, 1 + word_length(rest))),
+        [b'A'..=b'Z', rest @ ..] => Some(Front::Piece(Kind::Variable, 1 + word_length(rest))),
+        [b, ..] => Some(Front::Piece(mark_of(*b), 1)),
     }
 }

@@ -3,22 +3,20 @@ ghost use Rattle.std.specs.Prelude.{◌≡◌, ◌+◌, ◌<◌, ◌≤◌, leng
 ghost use Rattle.lexer.specs.Next.{Next, lexeme_of, end_of};
 
 use crate::first::first;
-use crate::token::{First, Token};
+use crate::token::{Front, Token};
 
 // The first token from the place `at` on, or None where only separators are left.
 pub fn next_token(text: &[u8], at: usize) -> Option<Token<'_>>
     ensures { Next text.now at result }
 {
     let mut place = at;
-    while place < text.len() {
-        match first(&text[place..]) {
-            First::Nothing => return None,
-            First::Gap(n) => place += n,
-            First::Piece(kind, n) => {
+    loop {
+        match first(text.get(place..)?)? {
+            Front::Gap(n) => place += n,
+            Front::Piece(kind, n) => {
                 let bytes = &text[place..place + n];
                 return Some(Token { kind, bytes, place });
             }
         }
     }
-    None
 }

@@ -1,11 +1,10 @@
 -- Lines and columns of a text.
-use Rattle.std.specs.Prelude.{◌≡◌, ℕ, ◌+◌, ◌-◌, ◌<◌, ◌≤◌, cond, ◌⊎◌, List, [], ◌∷◌, length, take, ◌==◌, ◌≢◌, slice_index}
+use Rattle.std.specs.Prelude.{◌≡◌, ℕ, ◌+◌, ◌-◌, ◌<◌, ◌≤◌, ◌⊎◌, List, count_by, length, take, ◌==◌, ◌≢◌, slice_index}
 use Rattle.places.specs.declared.Place.{Place}
 
 -- 10 is the line feed
 abbrev pub feeds : List ℕ → ℕ
-feeds [] = 0
-feeds (b ∷ bs) = cond (b == 10) 1 0 + feeds bs
+feeds bs = count_by (λ b. b == 10) bs
 
 -- from one place up to another there is no line feed
 abbrev pub Plain : List ℕ → ℕ → ℕ → Type 0

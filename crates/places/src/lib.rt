@@ -39,57 +39,44 @@ pub fn line_place(text: &[u8], line: usize) -> Option<Place>
     if line == 0 {
         return None;
     }
-    let mut at = 0;
     let mut n = 1;
-    while n < line {
-        if at == text.len() {
-            return None;
+    for (at, byte) in text.iter().enumerate() {
+        if n == line {
+            return place_of(text, at);
         }
-        if text[at] == b'\n' {
+        if *byte == b'\n' {
             n += 1;
         }
-        at += 1;
     }
-    place_of(text, at)
+    if n < line {
+        return None;
+    }
+    place_of(text, text.len())
 }
 
 fn count_feeds(text: &[u8]) -> usize
     ensures count { result ≡ feeds text.now }
     ensures few { result ≤ length text.now }
 {
-    let mut n = 0;
-    for i in 0..text.len() {
-        if text[i] == b'\n' {
-            n += 1;
-        }
-    }
-    n
+    text.iter().filter(|byte| **byte == b'\n').count()
 }
 
 fn line_start(text: &[u8], at: usize) -> usize
     requires { at ≤ length text.now }
     ensures { Starts text.now at result }
 {
-    let mut start = at;
-    while start > 0 {
-        if text[start - 1] == b'\n' {
-            return start;
-        }
-        start -= 1;
+    match text[..at].iter().rposition(|byte| *byte == b'\n') {
+        Some(feed) => feed + 1,
+        None => 0,
     }
-    start
 }
 
 fn line_end(text: &[u8], at: usize) -> usize
     requires { at ≤ length text.now }
     ensures { Ends text.now at result }
 {
-    let mut end = at;
-    while end < text.len() {
-        if text[end] == b'\n' {
-            return end;
-        }
-        end += 1;
+    match text[at..].iter().position(|byte| *byte == b'\n') {
+        Some(len) => at + len,
+        None => text.len(),
     }
-    end
 }

@@ -13,35 +13,24 @@ static PLACES: [(usize, usize, usize, usize, usize); 7] = [
 ];
 
 #[test]
-fn lines_and_columns(rt: HostRuntime) {
-    for row in PLACES {
-        let (byte, line, column, start, end) = row;
-        match place_of(b"ab\n\ncd", byte) {
-            Some(place) => {
-                assert_eq!(rt; place.line, line);
-                assert_eq!(rt; place.column, column);
-                assert_eq!(rt; place.start, start);
-                assert_eq!(rt; place.end, end);
-            }
-            None => assert!(rt; false),
-        }
+fn lines_and_columns(rt: HostRuntime) -> Result<(), Fail> {
+    for (byte, line, column, start, end) in PLACES {
+        let place = place_of(b"ab\n\ncd", byte).ok_or("no place")?;
+        assert_eq!(rt; place.line, line);
+        assert_eq!(rt; place.column, column);
+        assert_eq!(rt; place.start, start);
+        assert_eq!(rt; place.end, end);
     }
     assert!(rt; place_of(b"ab\n\ncd", 7).is_none());
+    Ok(())
 }
 
 #[test]
 fn lines_by_number(rt: HostRuntime) -> Result<(), Fail> {
     assert!(rt; line_place(b"ab\n\ncd", 0).is_none());
     assert!(rt; line_place(b"ab\n\ncd", 4).is_none());
-    match line_place(b"ab\n\ncd", 3) {
-        Some(place) => {
-            assert_eq!(rt; place.start, 4);
-            assert_eq!(rt; place.end, 6);
-            Ok(())
-        }
-        None => {
-            assert!(rt; false);
-            Ok(())
-        },
-    }
+    let place = line_place(b"ab\n\ncd", 3).ok_or("no line")?;
+    assert_eq!(rt; place.start, 4);
+    assert_eq!(rt; place.end, 6);
+    Ok(())
 }

@@ -7,12 +7,10 @@ use std::test::Fail;
 
 // Whether the next formula stands at this place, has these bytes, and is a formula when it stands alone.
 fn hands_out(reader: &mut Reader<'_>, place: usize, bytes: &[u8]) -> bool {
-    match reader.next() {
-        Ok(Some(part)) => {
-            part.place == place && part.bytes == bytes && check_formula(part.bytes).is_ok()
-        }
-        _ => false,
-    }
+    matches!(
+        reader.next(),
+        Ok(Some(part)) if part.place == place && part.bytes == bytes && check_formula(part.bytes).is_ok()
+    )
 }
 
 fn is_at_end(reader: &mut Reader<'_>) -> bool {
@@ -20,10 +18,7 @@ fn is_at_end(reader: &mut Reader<'_>) -> bool {
 }
 
 fn refuses(reader: &mut Reader<'_>) -> Option<Refusal> {
-    match reader.next() {
-        Ok(_) => None,
-        Err(e) => Some(e),
-    }
+    reader.next().err()
 }
 
 #[test]

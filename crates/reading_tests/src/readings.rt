@@ -50,10 +50,9 @@ const ZERO: Node = Node::App {
 
 // Whether a formula has so many variables, and these nodes on its sides.
 fn reads_as(text: &[u8], variables: usize, left: &[Node], right: &[Node]) -> bool {
-    match read(text) {
-        Ok(e) => e.variables == variables && e.left.nodes() == left && e.right.nodes() == right,
-        Err(_) => false,
-    }
+    read(text).is_ok_and(|e| {
+        e.variables == variables && e.left.nodes() == left && e.right.nodes() == right
+    })
 }
 
 #[test]

@@ -14,10 +14,7 @@ pub(crate) fn read(text: &[u8]) -> Result<Equation, Refusal> {
 
 // What reading a text is refused with, if it is.
 pub(crate) fn refused(text: &[u8]) -> Option<Refusal> {
-    match read(text) {
-        Ok(_) => None,
-        Err(e) => Some(e),
-    }
+    read(text).err()
 }
 
 fn repeat(text: &mut Vec<u8>, piece: &[u8], times: usize) -> Result<(), AllocError> {

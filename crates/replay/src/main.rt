@@ -32,10 +32,9 @@ fn main(rt: HostRuntime) -> io::Result<()> {
 // Makes the call of a line, and writes its answers.
 fn replay(rt: &HostRuntime, line: &[u8]) -> io::Result<()> {
     match parse(rt.alloc(), line) {
-        Ok(Call::Signature(text)) => rt.println(signature_answer(text.as_slice())),
-        Ok(Call::Read(text)) => read_problem(rt, text.as_slice()),
-        Ok(_) => rt.println(Answer::Error),
-        Err(Fault::Malformed) => rt.println(Answer::Error),
+        Ok(Call::Signature(text)) => rt.println(signature_answer(&text)),
+        Ok(Call::Read(text)) => read_problem(rt, &text),
+        Ok(_) | Err(Fault::Malformed) => rt.println(Answer::Error),
         Err(Fault::NoMemory) => Err(io::Error::from(io::ErrorKind::OutOfMemory)),
     }
 }
@@ -43,10 +42,7 @@ fn replay(rt: &HostRuntime, line: &[u8]) -> io::Result<()> {
 fn signature_answer(text: &[u8]) -> Answer
     ensures { (o : Either (List Line) Why) × (Read text.now o) × (result ≡ answer_of o) }
 {
-    match Signature::read(text) {
-        Ok(_) => Answer::Done,
-        Err(refusal) => Answer::Refused(refusal),
-    }
+    Signature::read(text).map_or_else(Answer::Refused, |_| Answer::Done)
 }
 
 // The parts of a problem text, and why there are no more.
@@ -62,27 +58,27 @@ fn read_answers(heap: Global, text: &[u8]) -> Result<Vec<Answer>, AllocError>
         }
     };
     loop {
-        let step = match reader.next() {
-            Ok(step) => step,
+        match reader.next() {
+            Ok(Some(part)) => {
+                let len = part.bytes.len();
+                let place = part.place;
+                answers.push(Answer::Formula { place, len })?;
+            }
+            Ok(None) => {
+                answers.push(Answer::Nothing)?;
+                return Ok(answers);
+            }
             Err(refusal) => {
                 answers.push(Answer::Refused(refusal))?;
                 return Ok(answers);
             }
-        };
-        let Some(part) = step else {
-            answers.push(Answer::Nothing)?;
-            return Ok(answers);
-        };
-        answers.push(Answer::Formula {
-            place: part.place,
-            len: part.bytes.len(),
-        })?;
+        }
     }
 }
 
 fn read_problem(rt: &HostRuntime, text: &[u8]) -> io::Result<()> {
     let answers = read_answers(rt.alloc(), text)?;
-    for answer in answers.iter() {
+    for answer in &answers {
         rt.println(answer)?;
     }
     Ok(())

@@ -10,7 +10,6 @@ use Rattle.signature.specs.Signatures.{sig_of, names_of, symbols_of}
 use Rattle.signature.specs.Written.{written}
 use Rattle.signature.specs.declared.symbol.Symbol.{Symbol}
 use Rattle.signature.specs.declared.signature.Signature.{Signature}
-use Rattle.signature.proofs.Symbols.{symbols_count}
 use Rattle.lexer.specs.Tokens.{Lexeme, tokens, tokens_from}
 use Rattle.lexer.specs.declared.token.Kind.TheVariants.{Word, Open, Close, Comma, Dot, Equal}
 use Rattle.lexer.proofs.Lexing.{tokens_none}
@@ -36,7 +35,7 @@ words_at (y ∷ ys) zero h = y.name.word
 words_at (y ∷ ys) (suc f) h = words_at ys f (omega arith)
 
 words_of : (s : Signature) → Words (sig_of s) (names_of s)
-words_of s f h = words_at (symbols_of s) f (omega (arith, symbols_count s))
+words_of s f h = words_at (symbols_of s) f h
 
 mutual
   occurs_low : (x : ℕ) (t : terms.Term) → Low t → terms.Occ x t → x < 32

@@ -15,7 +15,7 @@ use Rattle.signature.specs.declared.signature.Signature.{Signature}
 use Rattle.lexer.specs.Tokens.{Lexeme}
 use Rattle.lexer.specs.declared.token.Kind.TheVariants.{Word}
 use Rattle.grammar.specs.Kinds.{same_bytes}
-use Rattle.grammar.proofs.Same.{bytes_decide}
+use Rattle.std.proofs.lemmas.Slice.Eq.{bytes_eq-Decides}
 use Rattle.formula.specs.Symbols.{index_of, symbol_of}
 use Rattle.formula.specs.Uses.{Use, uses, usess, count, misused, Listed, here, later, NoneMisused}
 use Rattle.formula.specs.Numbering.{cells, cellss, laid, with_name, resolved, resolveds}
@@ -32,7 +32,7 @@ name_apart : (x y : ℕ) → x < 32 → y < 32 → variable_name x ≡ variable_
 name_apart x y h k e = sym (decimal_is_IsNumeral x (omega arith)).1 ∙ ap (digits_value 10) (tail_same e) ∙ (decimal_is_IsNumeral y (omega arith)).1
 
 name_test : (x y : ℕ) → x < 32 → y < 32 → same_bytes (variable_name x) (variable_name y) ≡ eqb x y
-name_test x y h k = same_from_decides _ _ (bytes_decide (variable_name x) (variable_name y)) (Decides-like (eqb x y) (ap variable_name) (name_apart x y h k) (Decides-eqb x y))
+name_test x y h k = same_from_decides _ _ (bytes_eq-Decides (variable_name x) (variable_name y)) (Decides-like (eqb x y) (ap variable_name) (name_apart x y h k) (Decides-eqb x y))
 
 abbrev pub Each : List ℕ → Type 0
 Each [] = Unit {0}

@@ -1,5 +1,6 @@
 -- The tokens of what is written.
-use Rattle.std.proofs.Common.{◌≡◌, ℕ, ◌+◌, ◌/◌, ◌%◌, ◌<◌, ◌≤◌, true, false, leb, ◌⊎◌, List, [], ◌∷◌, ◌++◌, length, get_or, decimal, sym, refl, ap, ◌∙◌, ap₂, inl, inr, append_assoc, arith, length-append}
+use Rattle.std.proofs.Common.{◌≡◌, ℕ, ◌+◌, ◌/◌, ◌%◌, ◌<◌, ◌≤◌, true, false, leb, ◌⊎◌, List, [], ◌∷◌, ◌++◌, length, get_or, decimal, Some, sym, refl, ap, ◌∙◌, ap₂, inl, inr, append_assoc, arith, length-append}
+use Rattle.std.specs.List.{prefix_len}
 use Rattle.std.proofs.lemmas.Fmt.{decimal_digit, decimal_step}
 use Rattle.std.proofs.lemmas.List.{take_at, drop_at, take_rest}
 use Rattle.std.proofs.lemmas.Bool.{cond-true, cond-false, and_parts, and_from, leb-true, cases_lt}
@@ -8,11 +9,10 @@ use Rattle.terms.specs.Term as terms
 use Rattle.terms.specs.Sig.{Sig, Over, AllOver}
 use Rattle.signature.specs.Words.{lower, wordly, each_wordly, is_word}
 use Rattle.signature.specs.Written.{written, written_args, written_more}
-use Rattle.lexer.specs.Tokens.{Lexeme, first, front_length, tokens_from}
+use Rattle.lexer.specs.Tokens.{Lexeme, first, tokens_from}
 use Rattle.lexer.specs.declared.token.Kind.{Kind}
 use Rattle.lexer.specs.declared.token.Kind.TheVariants.{Word, Variable, Open, Close, Comma}
-use Rattle.lexer.specs.declared.token.First.TheVariants.{Piece}
-use Rattle.lexer.specs.declared.token.Stretch.TheVariants.{Wordly}
+use Rattle.lexer.specs.declared.token.Front.TheVariants.{Piece}
 use Rattle.lexer.proofs.Heads.{first_word, first_variable}
 use Rattle.lexer.proofs.Lexing.{tokens_piece}
 use Rattle.round_trip.specs.Variables.{Low, Lows}
@@ -23,7 +23,7 @@ abbrev pub Stops : List ℕ → Type 0
 Stops [] = Unit {0}
 Stops (b ∷ bs) = wordly b ≡ false
 
-stretch : (bs rest : List ℕ) → each_wordly bs ≡ true → Stops rest → front_length Wordly (bs ++ rest) ≡ length bs
+stretch : (bs rest : List ℕ) → each_wordly bs ≡ true → Stops rest → prefix_len wordly (bs ++ rest) ≡ length bs
 stretch [] [] h e = refl
 stretch [] (b ∷ rest) h e = cond-false _ _ _ e
 stretch (b ∷ bs) rest h e =
@@ -31,11 +31,11 @@ stretch (b ∷ bs) rest h e =
     cond-true _ _ _ both.0 ∙ ap (λ k. 1 + k) (stretch bs rest both.1 e) ∙ omega arith
 
 -- one token, and what is behind it
-pub piece : (bs rest : List ℕ) (n : ℕ) (k : Kind) → first (bs ++ rest) ≡ Piece k (length bs) → tokens_from (bs ++ rest) n ≡ token k bs n ∷ tokens_from rest (n + length bs)
+pub piece : (bs rest : List ℕ) (n : ℕ) (k : Kind) → first (bs ++ rest) ≡ Some (Piece k (length bs)) → tokens_from (bs ++ rest) n ≡ token k bs n ∷ tokens_from rest (n + length bs)
 piece bs rest n k e =
     tokens_piece (bs ++ rest) n k (length bs) e ∙ ap₂ (λ (a b : List ℕ). token k a n ∷ tokens_from b (n + length bs)) (take_at bs rest (length bs) refl) (drop_at bs rest (length bs) refl)
 
-word_first : (w rest : List ℕ) → is_word w ≡ true → Stops rest → first (w ++ rest) ≡ Piece Word (length w)
+word_first : (w rest : List ℕ) → is_word w ≡ true → Stops rest → first (w ++ rest) ≡ Some (Piece Word (length w))
 word_first [] rest h e = absurd_word h
   where
     absurd_word : {A : Type 0} → false ≡ true → A
@@ -43,7 +43,7 @@ word_first [] rest h e = absurd_word h
 word_first (b ∷ bs) rest h e =
     let both = and_parts (lower b) (each_wordly bs) h in
     let range = and_parts (leb 97 b) (leb b 122) both.0 in
-    first_word (b ∷ (bs ++ rest)) (omega arith) (leb-true 97 b range.0) (leb-true b 122 range.1) ∙ ap (λ xs. Piece Word (1 + front_length Wordly xs)) (take_rest (b ∷ (bs ++ rest)) 1) ∙ ap (λ k. Piece Word (1 + k)) (stretch bs rest both.1 e) ∙ ap (λ k. Piece Word k) (omega arith)
+    first_word (b ∷ (bs ++ rest)) (omega arith) (leb-true 97 b range.0) (leb-true b 122 range.1) ∙ ap (λ xs. Some (Piece Word (1 + prefix_len wordly xs))) (take_rest (b ∷ (bs ++ rest)) 1) ∙ ap (λ k. Some (Piece Word (1 + k))) (stretch bs rest both.1 e) ∙ ap (λ k. Some (Piece Word k)) (omega arith)
 
 digit_wordly : (n : ℕ) → n < 10 → wordly (48 + n) ≡ true
 digit_wordly n h = grind (arith, nat_tests)
@@ -58,16 +58,16 @@ decimal_wordly x h = by (cases_lt x 10)
         let low : x % 10 < 10 = omega arith in
         ap each_wordly (decimal_step x k (omega arith) ∙ ap (λ ds. ds ++ ((48 + x % 10) ∷ [])) (decimal_digit (x / 10) high)) ∙ and_from (wordly (48 + x / 10)) _ (digit_wordly (x / 10) high) (and_from (wordly (48 + x % 10)) true (digit_wordly (x % 10) low) refl)
 
-variable_first : (x : ℕ) (rest : List ℕ) → x < 32 → Stops rest → first (variable_name x ++ rest) ≡ Piece Variable (length (variable_name x))
+variable_first : (x : ℕ) (rest : List ℕ) → x < 32 → Stops rest → first (variable_name x ++ rest) ≡ Some (Piece Variable (length (variable_name x)))
 variable_first x rest h e =
-    first_variable (88 ∷ (decimal x ++ rest)) (omega arith) (omega arith) (omega arith) ∙ ap (λ xs. Piece Variable (1 + front_length Wordly xs)) (take_rest (88 ∷ (decimal x ++ rest)) 1) ∙ ap (λ k. Piece Variable (1 + k)) (stretch (decimal x) rest (decimal_wordly x h) e) ∙ ap (λ k. Piece Variable k) (omega arith)
+    first_variable (88 ∷ (decimal x ++ rest)) (omega arith) (omega arith) (omega arith) ∙ ap (λ xs. Some (Piece Variable (1 + prefix_len wordly xs))) (take_rest (88 ∷ (decimal x ++ rest)) 1) ∙ ap (λ k. Some (Piece Variable (1 + k))) (stretch (decimal x) rest (decimal_wordly x h) e) ∙ ap (λ k. Some (Piece Variable k)) (omega arith)
 
 -- every name of the signature is a word
 abbrev pub Words : Sig → List (List ℕ) → Type 0
 Words S ns = (f : ℕ) → f < S.symbols → is_word (get_or ns f []) ≡ true
 
 -- a mark, a term and what follows it
-marked : (b : ℕ) (k : Kind) (wt wm : List ℕ) (st sm : List Lexeme) (rest : List ℕ) (n : ℕ) → first (b ∷ (wt ++ (wm ++ rest))) ≡ Piece k 1 → tokens_from (wt ++ (wm ++ rest)) (n + 1) ≡ st ++ tokens_from (wm ++ rest) (n + 1 + length wt) → tokens_from (wm ++ rest) (n + 1 + length wt) ≡ sm ++ tokens_from rest (n + 1 + length wt + length wm) → tokens_from ((b ∷ (wt ++ wm)) ++ rest) n ≡ (token k (b ∷ []) n ∷ (st ++ sm)) ++ tokens_from rest (n + length (b ∷ (wt ++ wm)))
+marked : (b : ℕ) (k : Kind) (wt wm : List ℕ) (st sm : List Lexeme) (rest : List ℕ) (n : ℕ) → first (b ∷ (wt ++ (wm ++ rest))) ≡ Some (Piece k 1) → tokens_from (wt ++ (wm ++ rest)) (n + 1) ≡ st ++ tokens_from (wm ++ rest) (n + 1 + length wt) → tokens_from (wm ++ rest) (n + 1 + length wt) ≡ sm ++ tokens_from rest (n + 1 + length wt + length wm) → tokens_from ((b ∷ (wt ++ wm)) ++ rest) n ≡ (token k (b ∷ []) n ∷ (st ++ sm)) ++ tokens_from rest (n + length (b ∷ (wt ++ wm)))
 marked b k wt wm st sm rest n e a c =
     let sum : n + 1 + length wt + length wm ≡ n + length (b ∷ (wt ++ wm)) = omega (arith, length-append wt wm) in
     ap (λ bs. tokens_from (b ∷ bs) n) (append_assoc wt wm rest) ∙ piece (b ∷ []) (wt ++ (wm ++ rest)) n k e ∙ ap (λ us. token k (b ∷ []) n ∷ us) (a ∙ ap (λ us. st ++ us) c ∙ sym (append_assoc st sm (tokens_from rest (n + 1 + length wt + length wm))) ∙ ap (λ m. (st ++ sm) ++ tokens_from rest m) sum)

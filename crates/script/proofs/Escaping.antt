@@ -1,7 +1,6 @@
 -- The first byte that a text with escapes stands for, and bytes in front of the rest.
-use Rattle.std.proofs.Common.{◌≡◌, ℕ, ◌+◌, ◌-◌, ◌*◌, ◌/◌, ◌%◌, ◌<◌, List, [], ◌∷◌, ◌++◌, length, get_or, take, drop, Some, None, Option, refl, ap, ◌∙◌, arith}
+use Rattle.std.proofs.Common.{◌≡◌, ℕ, ◌+◌, ◌*◌, ◌/◌, ◌%◌, ◌<◌, List, [], ◌∷◌, ◌++◌, length, get_or, drop, Some, None, Option, refl, ap, ◌∙◌, arith}
 use Rattle.std.proofs.lemmas.Bool.{ne_eqb}
-use Rattle.std.proofs.lemmas.List.{take_rest}
 use Rattle.std.proofs.lemmas.Bool.Decides.{nat_tests}
 use Rattle.script.specs.Escapes.{hex_digit, hex_letter, pair, onto, unescaped, CodesStand, PlainStand}
 
@@ -23,9 +22,8 @@ before_all [] = refl
 before_all (x ∷ xs) = ap (onto (Some x)) (before_all xs)
 
 -- one more byte was read
-pub before_more : (text rest bytes pushed : List ℕ) (byte len : ℕ) → unescaped text ≡ before bytes (unescaped rest) → unescaped rest ≡ onto (Some byte) (unescaped (drop len rest)) → pushed ≡ bytes ++ byte ∷ [] → unescaped text ≡ before pushed (unescaped (take (length rest - len) (drop len rest)))
-before_more text rest bytes pushed byte len e f p =
-    rw (take_rest rest len, p, before_push bytes byte (unescaped (drop len rest))) (e ∙ ap (before bytes) f)
+pub before_more : (text rest after bytes pushed : List ℕ) (byte : ℕ) → unescaped text ≡ before bytes (unescaped rest) → unescaped rest ≡ onto (Some byte) (unescaped after) → pushed ≡ bytes ++ byte ∷ [] → unescaped text ≡ before pushed (unescaped after)
+before_more text rest after bytes pushed byte e f p = rw (p, before_push bytes byte (unescaped after)) (e ∙ ap (before bytes) f)
 
 pub code_first : (t : List ℕ) → 3 < length t → get_or t 0 0 ≡ 92 → get_or t 1 0 ≡ 120 → unescaped t ≡ onto (pair (hex_digit (get_or t 2 0)) (hex_digit (get_or t 3 0))) (unescaped (drop 4 t))
 code_first [] h e f = absurd (omega arith)

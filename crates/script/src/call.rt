@@ -1,4 +1,9 @@
 // What a line of the script can say.
+ghost use Rattle.std.specs.Prelude.{◌≡◌};
+ghost use Rattle.script.specs.declared.call.Fault.TheVariants.{NoMemory as MemoryGone};
+
+use std::alloc::AllocFailed;
+
 #[derive(Clone, Copy, PartialEq, Eq, Debug)]
 pub enum Order {
     Kbo,
@@ -63,4 +68,12 @@ pub enum Call {
 pub enum Fault {
     Malformed,
     NoMemory,
+}
+
+impl From<AllocFailed<u8>> for Fault {
+    ghost from_gives = { λ _ f. f ≡ MemoryGone };
+
+    fn from(_: AllocFailed<u8>) -> Fault {
+        Fault::NoMemory
+    }
 }

@@ -21,9 +21,7 @@ static MALFORMED: [&[u8]; 12] = [
 
 #[test]
 fn texts(rt: HostRuntime) -> Result<(), Fail> {
-    let Ok(bytes) = quoted(rt.alloc(), b"\"a\\t\\\"\\\\\\x4a\\x4A\"") else {
-        return Err(Fail::new("not read"));
-    };
+    let bytes = quoted(rt.alloc(), b"\"a\\t\\\"\\\\\\x4a\\x4A\"")?;
     assert!(rt; bytes.as_slice() == b"a\t\"\\JJ".as_slice());
     assert!(rt; quoted(rt.alloc(), b"\"a\"\"").is_err());
     assert!(rt; quoted(rt.alloc(), b"\"\\x4\"").is_err());
@@ -40,19 +38,16 @@ fn good_lines(rt: HostRuntime) -> Result<(), Fail> {
             Ok(Call::Remove(999_999_999))
         )
     );
-    match parse(rt.alloc(), b"open 65535 lpo tree") {
-        Ok(
-            Call::Open {
-                number,
-                order,
-                index,
-            },
-        ) => {
-            assert!(rt; number == 65_535 && order == Order::Lpo && index == Index::Tree);
-            Ok(())
-        }
-        _ => Err(Fail::new("not read")),
-    }
+    let Call::Open {
+        number,
+        order,
+        index,
+    } = parse(rt.alloc(), b"open 65535 lpo tree")?
+    else {
+        return Err(Fail::new("another call"));
+    };
+    assert!(rt; number == 65_535 && order == Order::Lpo && index == Index::Tree);
+    Ok(())
 }
 
 #[test]

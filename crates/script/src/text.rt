@@ -1,26 +1,17 @@
 // Texts between double quotes, with escapes.
-ghost use Rattle.std.specs.Prelude.{◌≡◌, ℕ, ◌<◌, ◌≤◌, List, length, drop, IfSome, Some, None, MatchOption, MatchResult};
+ghost use Rattle.std.specs.Prelude.{◌≡◌, ℕ, ◌<◌, List, length, Some, None, MatchOption, MatchResult, IfSome};
 ghost use Rattle.script.specs.Escapes.{short, hex_digit, pair, onto, unescaped, Quoted, CodesStand, PlainStand};
 
 use crate::call::Fault;
 use std::alloc::Global;
 
-// One byte, and how long its writing is.
-#[derive(Clone, Copy)]
-struct One {
-    byte: u8,
-    len: usize,
-}
-
 // The bytes that a text between double quotes stands for.
 pub fn quoted(heap: Global, text: &[u8]) -> Result<Vec<u8>, Fault>
     ensures { MatchResult result (λ v. Quoted text.now v.items) (λ e. e ≡ Fault.Malformed → (bytes : List ℕ) → Quoted text.now bytes → ⊥) }
 {
-    let len = text.len();
-    if len >= 2 && text[0] == b'"' && text[len - 1] == b'"' {
-        unescape(heap, &text[1..len - 1])
-    } else {
-        Err(Fault::Malformed)
+    match text {
+        [b'"', inner @ .., b'"'] => unescape(heap, inner),
+        _ => Err(Fault::Malformed),
     }
 }
 
@@ -33,37 +24,23 @@ pub fn unescape(heap: Global, text: &[u8]) -> Result<Vec<u8>, Fault>
     let mut bytes = Vec::new(heap);
     let mut rest = text;
     while !rest.is_empty() {
-        let Some(first) = first_byte(rest) else {
-            return Err(Fault::Malformed);
-        };
-        if bytes.push(first.byte).is_err() {
-            return Err(Fault::NoMemory);
-        }
-        let len = first.len;
-        rest = &rest[len..];
+        let (byte, after) = first_byte(rest).ok_or(Fault::Malformed)?;
+        bytes.push(byte)?;
+        rest = after;
     }
     Ok(bytes)
 }
 
-// The first byte that the text stands for.
-fn first_byte(text: &[u8]) -> Option<One>
+// The first byte that the text stands for, and the text after it.
+fn first_byte(text: &[u8]) -> Option<(u8, &[u8])>
     requires { 0 < length text.now }
-    ensures { MatchOption result (unescaped text.now ≡ None) (λ o. (unescaped text.now ≡ onto (Some o.byte) (unescaped (drop o.len text.now))) × (0 < o.len) × (o.len ≤ length text.now)) }
+    ensures { MatchOption result (unescaped text.now ≡ None) (λ o. (unescaped text.now ≡ onto (Some o.0) (unescaped o.1.now)) × (length o.1.now < length text.now)) }
 {
     match text {
-        [b'\\', b'x', high, low, ..] => {
-            let byte = coded_byte(*high, *low)?;
-            Some(One { byte, len: 4 })
-        }
-        [b'\\', letter, ..] => {
-            let byte = short_escape(*letter)?;
-            Some(One { byte, len: 2 })
-        }
+        [b'\\', b'x', high, low, rest @ ..] => Some((coded_byte(*high, *low)?, rest)),
+        [b'\\', letter, rest @ ..] => Some((short_escape(*letter)?, rest)),
         [b'\\' | b'"' | b'\n', ..] | [] => None,
-        [byte, ..] => Some(One {
-            byte: *byte,
-            len: 1,
-        }),
+        [byte, rest @ ..] => Some((*byte, rest)),
     }
 }
 
@@ -93,10 +70,6 @@ fn hex_value(digit: u8) -> Option<u8>
     ensures value { result ≡ hex_digit digit }
     ensures bound { IfSome result (λ v. v < 16) }
 {
-    match digit {
-        b'0'..=b'9' => Some(digit - b'0'),
-        b'a'..=b'f' => Some(digit - 87),
-        b'A'..=b'F' => Some(digit - 55),
-        _ => None,
-    }
+    let value = char::from(digit).to_digit(16)?;
+    Some(value as u8)
 }

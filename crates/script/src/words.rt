@@ -1,62 +1,63 @@
 // The words of the script.
-ghost use Rattle.std.specs.Prelude.{◌≡◌, true, Decides, MatchOption, ◌≢◌};
+ghost use Rattle.std.specs.Prelude.{◌≡◌, MatchResult, ◌≢◌};
 ghost use Rattle.script.specs.Spellings.{word, order_word, index_word};
 
-use crate::call::{Index, Order, Word};
+use crate::call::{Fault, Index, Order, Word};
 
-pub(crate) fn word_of(text: &[u8]) -> Option<Word>
-    ensures { MatchOption result ((w : Word) → text.now ≢ word w) (λ w. text.now ≡ word w) }
-{
-    if is(text, b"signature") {
-        Some(Word::Signature)
-    } else if is(text, b"open") {
-        Some(Word::Open)
-    } else if is(text, b"add") {
-        Some(Word::Add)
-    } else if is(text, b"remove") {
-        Some(Word::Remove)
-    } else if is(text, b"audit") {
-        Some(Word::Audit)
-    } else if is(text, b"release") {
-        Some(Word::Release)
-    } else if is(text, b"simplify") {
-        Some(Word::Simplify)
-    } else if is(text, b"judge") {
-        Some(Word::Judge)
-    } else if is(text, b"read") {
-        Some(Word::Read)
-    } else {
-        None
+impl TryFrom<&[u8]> for Word {
+    ghost use Rattle.script.specs.declared.call.Word.{Word};
+
+    type Error = Fault;
+
+    ghost try_from_gives = { λ t r. MatchResult r (λ w. t.now ≡ word w) (λ _. (w : Word) → t.now ≢ word w) };
+
+    #[tactic(auto, using(std::proofs::lemmas::Slice::Eq::text_from_reads))]
+    fn try_from(text: &[u8]) -> Result<Word, Fault> {
+        match text {
+            b"signature" => Ok(Word::Signature),
+            b"open" => Ok(Word::Open),
+            b"add" => Ok(Word::Add),
+            b"remove" => Ok(Word::Remove),
+            b"audit" => Ok(Word::Audit),
+            b"release" => Ok(Word::Release),
+            b"simplify" => Ok(Word::Simplify),
+            b"judge" => Ok(Word::Judge),
+            b"read" => Ok(Word::Read),
+            _ => Err(Fault::Malformed),
+        }
     }
 }
 
-pub(crate) fn order_of(text: &[u8]) -> Option<Order>
-    ensures { MatchOption result ((o : Order) → text.now ≢ order_word o) (λ o. text.now ≡ order_word o) }
-{
-    if is(text, b"kbo") {
-        Some(Order::Kbo)
-    } else if is(text, b"lpo") {
-        Some(Order::Lpo)
-    } else {
-        None
+impl TryFrom<&[u8]> for Order {
+    ghost use Rattle.script.specs.declared.call.Order.{Order};
+
+    type Error = Fault;
+
+    ghost try_from_gives = { λ t r. MatchResult r (λ o. t.now ≡ order_word o) (λ _. (o : Order) → t.now ≢ order_word o) };
+
+    #[tactic(auto, using(std::proofs::lemmas::Slice::Eq::text_from_reads))]
+    fn try_from(text: &[u8]) -> Result<Order, Fault> {
+        match text {
+            b"kbo" => Ok(Order::Kbo),
+            b"lpo" => Ok(Order::Lpo),
+            _ => Err(Fault::Malformed),
+        }
     }
 }
 
-pub(crate) fn index_of(text: &[u8]) -> Option<Index>
-    ensures { MatchOption result ((i : Index) → text.now ≢ index_word i) (λ i. text.now ≡ index_word i) }
-{
-    if is(text, b"list") {
-        Some(Index::List)
-    } else if is(text, b"tree") {
-        Some(Index::Tree)
-    } else {
-        None
-    }
-}
+impl TryFrom<&[u8]> for Index {
+    ghost use Rattle.script.specs.declared.call.Index.{Index};
 
-// Whether the text is this one.
-pub(crate) fn is(text: &[u8], fixed: &[u8]) -> bool
-    ensures { Decides result (text.now ≡ fixed.now) }
-{
-    text == fixed
+    type Error = Fault;
+
+    ghost try_from_gives = { λ t r. MatchResult r (λ i. t.now ≡ index_word i) (λ _. (i : Index) → t.now ≢ index_word i) };
+
+    #[tactic(auto, using(std::proofs::lemmas::Slice::Eq::text_from_reads))]
+    fn try_from(text: &[u8]) -> Result<Index, Fault> {
+        match text {
+            b"list" => Ok(Index::List),
+            b"tree" => Ok(Index::Tree),
+            _ => Err(Fault::Malformed),
+        }
+    }
 }

@@ -1,8 +1,7 @@
 -- A text cut at its tabs and line feeds: a well-formed line can be cut in one way only.
-use Rattle.std.proofs.Common.{◌≡◌, ℕ, ◌-◌, ◌<◌, ◌≤◌, true, false, List, [], ◌∷◌, ◌++◌, length, drop, decimal, sym, refl, ap, ◌∙◌, append_assoc, arith, length-append}
+use Rattle.std.proofs.Common.{◌≡◌, ℕ, ◌<◌, true, false, List, [], ◌∷◌, ◌++◌, length, decimal, sym, refl, ap, ◌∙◌, append_assoc, arith, length-append}
 use mathlib.Core.Bool.{false≢true}
 use Rattle.std.proofs.lemmas.Bool.{and_parts}
-use Rattle.std.proofs.lemmas.List.{drop_at}
 use Rattle.std.proofs.lemmas.Fmt.{decimal_injective}
 use Rattle.signature.specs.Words.{wordly, each_wordly, is_word, lower}
 use Rattle.fields.specs.Cuts.{Without, Cut}
@@ -54,9 +53,3 @@ pub line_whole : (l : Line) {text name rest arity rest2 weight after : List ℕ}
 line_whole l {text} {name} {rest} {arity} {rest2} {weight} {after} n a w f =
     let t : text ≡ name ++ (9 ∷ (arity ++ (9 ∷ (weight ++ (10 ∷ after))))) = n.whole ∙ ap (λ r. name ++ (9 ∷ r)) (a.whole ∙ ap (λ r. arity ++ (9 ∷ r)) w.whole) in
     t ∙ rw (f.name_is, f.arity_is, f.weight_is) (sym (flat l after))
-
-pub past : (text front after : List ℕ) → text ≡ front ++ after → 0 < length front → (text ≡ front ++ drop (length text - length after) text) × (length text - length after ≤ length text) × (0 < length text - length after)
-past text front after e some =
-    let size = ap length e ∙ length-append front after in
-    let at : drop (length text - length after) text ≡ after = ap (λ t. drop (length text - length after) t) e ∙ drop_at front after (length text - length after) (omega arith) in
-    (e ∙ ap (λ r. front ++ r) (sym at), omega arith, omega arith)

@@ -1,8 +1,9 @@
 -- Good lines: one more, fewer, and those of symbols.
-use Rattle.std.proofs.Common.{◌≡◌, ℕ, ◌+◌, ◌<◌, ◌≤◌, ◌⊎◌, List, [], ◌∷◌, ◌++◌, map, length, get_or, take, set, sym, refl, ap, ◌∙◌, subst, inl, inr, append_assoc, arith, length-append, length-take}
+use Rattle.std.proofs.Common.{◌≡◌, ℕ, ◌+◌, ◌<◌, ◌≤◌, ◌⊎◌, List, [], ◌∷◌, ◌++◌, map, length, get_or, sym, refl, ap, ◌∙◌, subst, inl, inr, append_assoc, arith, length-append, length-take, ◌≢◌}
 use Rattle.std.specs.List.{flat_map, AllByRecursion}
 use Rattle.std.proofs.lemmas.Bool.{cases_lt}
-use Rattle.std.proofs.lemmas.List.{get_or_append_left, get_or_push, length_push, get_or_default, map-append, map_push, length-map, length-take-le, take_more_set, flat_map_more}
+use Rattle.std.proofs.lemmas.List.{get_or_append_left, get_or_push, length_push, get_or_default, map-append, map_push, length-map, flat_map_more}
+use Rattle.std.proofs.lemmas.List.Quantifiers.{all_pairs_push}
 use Rattle.refusal.specs.declared.Refusal.TheVariants.{SignatureLine}
 use Rattle.signature.specs.Lines.{Apart, Absent, names, spelled}
 use Rattle.signature.specs.Texts.{Line, text_of, WellFormed, Sound, BadLine, TooMany, Refused}
@@ -14,13 +15,7 @@ abbrev name_of : Line → List ℕ
 name_of l = l.name
 
 apart_push : (ns : List (List ℕ)) (n : List ℕ) → Apart ns → Absent n ns → Apart (ns ++ n ∷ [])
-apart_push ns n h a i j d lt within e =
-    let size = length_push ns n in
-    let left : get_or (ns ++ n ∷ []) i d ≡ get_or ns i d = get_or_append_left ns (n ∷ []) d i (omega arith) in
-    elim (cases_lt j (length ns)) [
-      | inl low ↦ h i j d lt low (sym left ∙ e ∙ get_or_append_left ns (n ∷ []) d j low)
-      | inr high ↦ a i (omega arith) (get_or_default ns i [] d (omega arith) ∙ sym left ∙ e ∙ get_or_push ns n d j (omega arith))
-    ]
+apart_push ns n h a = all_pairs_push (λ l m. l ≢ m) ns n h (λ k d low e. a k low (get_or_default ns k [] d low ∙ e))
 
 apart_front : (ns ms : List (List ℕ)) → Apart (ns ++ ms) → Apart ns
 apart_front ns ms h i j d lt within e =
@@ -55,7 +50,7 @@ last_absent ls l s = apart_last (map name_of ls) l.name (subst Apart (map_push n
 well : (y : Symbol) → WellFormed (line_of y)
 well y = record {
   word = y.name.word;
-  short = omega (arith, length-take y.name.len y.name.bytes, y.name.short);
+  short = omega (arith, length-take y.name.bytes.len y.name.bytes.cells, y.name.bytes.within);
   arity_within = y.arity_most;
   weight_some = y.weight_least;
   weight_within = y.weight_most;
@@ -82,28 +77,33 @@ bad_again ss y rest after k e within taken l more s f =
     absent k (omega arith) (taken ∙ ap name_of (sym same))
 
 -- the refusal of the line after those of the symbols
-pub refused : (text rest : List ℕ) (symbols : List Symbol) (count : ℕ) → count ≤ length symbols → text ≡ flat_map text_of (map line_of (take count symbols)) ++ rest → Apart (names (take count symbols)) → (length (map line_of (take count symbols)) ≡ count → BadLine (map line_of (take count symbols)) rest ⊎ TooMany (map line_of (take count symbols)) rest) → Refused text (SignatureLine (count + 1))
-refused text rest symbols count fits e h why =
-    let ss = take count symbols in
-    let size : length (map line_of ss) ≡ count = length-map ss line_of ∙ length-take-le count symbols fits in
-    record {
-      before = map line_of ss;
-      rest = rest;
-      whole = e;
-      sound = sound_lines ss h;
-      is = ap SignatureLine (omega arith);
-      why = why size;
-    }
+module _ (text rest : List ℕ) (ss : List Symbol) (e : text ≡ flat_map text_of (map line_of ss) ++ rest) (h : Apart (names ss)) where
+  pub refused : BadLine (map line_of ss) rest ⊎ TooMany (map line_of ss) rest → Refused text (SignatureLine (length ss + 1))
+  refused why = record {
+    before = map line_of ss;
+    rest = rest;
+    whole = e;
+    sound = sound_lines ss h;
+    is = ap SignatureLine (omega (arith, length-map ss line_of));
+    why = why;
+  }
+
+  -- there are at most 64 symbols, and the text goes on in another way than with a good line
+  pub bad_line : length ss ≤ 64 → (rest ≡ [] → ss ≡ []) → ((l : Line) (after : List ℕ) → Sound (map line_of ss ++ l ∷ []) → rest ≢ text_of l ++ after) → Refused text (SignatureLine (length ss + 1))
+  bad_line most more bad =
+      let size = length-map ss line_of in
+      elim (cases_lt (length ss) 64) [
+        | inl few ↦ refused (inl (record { few = omega (arith, size); more = λ e. ap (map line_of) (more e); bad = bad }))
+        | inr full ↦ refused (inr (record { all = omega (arith, size); more = λ e. omega (arith, ap length (more e)) }))
+      ]
 
 -- one more symbol
-module _ (symbols : List Symbol) (count : ℕ) (y : Symbol) (fits : count < length symbols) where
-  pub text_more : (text rest after : List ℕ) → text ≡ flat_map text_of (map line_of (take count symbols)) ++ rest → rest ≡ text_of (line_of y) ++ after → text ≡ flat_map text_of (map line_of (take (count + 1) (set symbols count y))) ++ after
+module _ (ss : List Symbol) (y : Symbol) where
+  pub text_more : (text rest after : List ℕ) → text ≡ flat_map text_of (map line_of ss) ++ rest → rest ≡ text_of (line_of y) ++ after → text ≡ flat_map text_of (map line_of (ss ++ y ∷ [])) ++ after
   text_more text rest after e f =
-      let ls = map line_of (take count symbols) in
-      let lines : map line_of (take (count + 1) (set symbols count y)) ≡ ls ++ line_of y ∷ [] = ap (map line_of) (take_more_set symbols count y fits) ∙ map_push line_of (take count symbols) y in
+      let ls = map line_of ss in
+      let lines : map line_of (ss ++ y ∷ []) ≡ ls ++ line_of y ∷ [] = map_push line_of ss y in
       e ∙ ap (λ r. flat_map text_of ls ++ r) f ∙ sym (append_assoc (flat_map text_of ls) (text_of (line_of y)) after) ∙ ap (λ t. t ++ after) (flat_map_more text_of [] ls (line_of y) ∙ ap (flat_map text_of) (sym lines))
 
-  pub apart_more : Apart (names (take count symbols)) → Absent (spelled y.name) (names (take count symbols)) → Apart (names (take (count + 1) (set symbols count y)))
-  apart_more h a =
-      let more : names (take (count + 1) (set symbols count y)) ≡ names (take count symbols) ++ spelled y.name ∷ [] = ap names (take_more_set symbols count y fits) ∙ map_push (λ (z : Symbol). spelled z.name) (take count symbols) y in
-      subst Apart (sym more) (apart_push _ _ h a)
+  pub apart_more : Apart (names ss) → Absent (spelled y.name) (names ss) → Apart (names (ss ++ y ∷ []))
+  apart_more h a = subst Apart (sym (map_push (λ (z : Symbol). spelled z.name) ss y)) (apart_push _ _ h a)

@@ -1,6 +1,7 @@
 -- A signature as mathematics has it.
-use Rattle.std.specs.Prelude.{ℕ, List, map, take, Ok, Err, Result, slice_index, slice_index_or}
+use Rattle.std.specs.Prelude.{ℕ, List, map, length, Ok, Err, Result, slice_index, slice_index_or}
 use Rattle.terms.specs.Sig.{Sig}
+use Rattle.row.specs.Items.{items}
 use Rattle.refusal.specs.declared.Refusal.{Refusal}
 use Rattle.signature.specs.Lines.{names, spelled}
 use Rattle.signature.specs.Texts.{Line}
@@ -9,7 +10,7 @@ use Rattle.signature.specs.declared.signature.Signature.{Signature}
 
 -- the symbols by line, the first line's number being 0
 abbrev pub symbols_of : Signature → List Symbol
-symbols_of s = take s.count s.symbols
+symbols_of s = items s.symbols
 
 abbrev pub arities : List Symbol → List ℕ
 arities ss = map (λ (s : Symbol). s.arity) ss
@@ -20,7 +21,7 @@ weights ss = map (λ (s : Symbol). s.weight) ss
 -- a number without a line has arity 0 and weight 1 here, which no term over the signature sees
 abbrev pub sig_of : Signature → Sig
 sig_of s = record {
-  symbols = s.count;
+  symbols = length (symbols_of s);
   arity = λ f. slice_index (arities (symbols_of s)) f;
   weight = λ f. slice_index_or (weights (symbols_of s)) f 1;
 }

@@ -1,5 +1,6 @@
 -- Letters, digits and words, byte by byte.
-use Rattle.std.specs.Prelude.{ℕ, Bool, true, false, ◌&&◌, ◌||◌, List, [], ◌∷◌, ◌==◌, nat_le}
+use Rattle.std.specs.Prelude.{ℕ, Bool, false, ◌&&◌, ◌||◌, List, [], ◌∷◌, ◌==◌, nat_le}
+use Rattle.std.specs.List.{list_all}
 
 -- 'a' to 'z'
 abbrev pub lower : ℕ → Bool
@@ -18,8 +19,7 @@ abbrev pub wordly : ℕ → Bool
 wordly b = lower b || upper b || digit b || b == 95
 
 abbrev pub each_wordly : List ℕ → Bool
-each_wordly [] = true
-each_wordly (b ∷ bs) = wordly b && each_wordly bs
+each_wordly bs = list_all wordly bs
 
 -- a lower-case letter, then letters, digits and underscores
 abbrev pub is_word : List ℕ → Bool

@@ -5,13 +5,13 @@ use crate::name::Name;
 
 mod methods;
 
-pub(crate) use methods::position;
+pub(crate) use methods::is_taken;
 
 #[derive(Clone, Copy)]
 pub struct Symbol {
-    name: Name,
-    arity: u8,
-    weight: u8,
+    pub(crate) name: Name,
+    pub(crate) arity: u8,
+    pub(crate) weight: u8,
     ghost arity_most: { arity ≤ 4 },
     ghost weight_least: { 1 ≤ weight },
     ghost weight_most: { weight ≤ 100 },

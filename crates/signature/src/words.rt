@@ -6,7 +6,7 @@ ghost use Rattle.signature.specs.Words.{wordly, is_word, each_wordly};
 pub fn is_wordly(byte: u8) -> bool
     ensures { result ≡ wordly byte }
 {
-    byte.is_ascii_lowercase() || byte.is_ascii_uppercase() || byte.is_ascii_digit() || byte == b'_'
+    byte.is_ascii_alphanumeric() || byte == b'_'
 }
 
 pub fn is_word(text: &[u8]) -> bool
@@ -21,10 +21,5 @@ pub fn is_word(text: &[u8]) -> bool
 fn all_wordly(text: &[u8]) -> bool
     ensures { result ≡ each_wordly text.now }
 {
-    for byte in text {
-        if !is_wordly(*byte) {
-            return false;
-        }
-    }
-    true
+    text.iter().all(|byte| is_wordly(*byte))
 }

@@ -1,25 +1,27 @@
 ghost use Rattle.std.specs.Prelude.{◌≡◌, ◌+◌, ◌<◌, ◌≤◌, [], ◌∷◌, length, drop, None};
+ghost use Rattle.row.specs.Items.{items};
 ghost use Rattle.lexer.specs.Tokens.{tokens_from};
 ghost use Rattle.lexer.specs.Next.{lexeme_of};
-ghost use Rattle.formula.specs.Scans.{note as note_of, bumped as one_more, arity_code, at_comma, at_close, noted_at_close, stacked, noted, scan};
+ghost use Rattle.formula.specs.Scans.{low, bumped as one_more, arity_in, at_comma, at_close, noted_at_close, stacked, noted, scan};
 ghost use Rattle.formula.specs.Stacks.{stack_of};
 
-use super::{DEEPEST, Uses};
+use super::Uses;
 use crate::frame::Frame;
 use crate::symbol::symbol_named;
 use crate::tokens::opens;
 use lexer::scanner::next_token;
 use lexer::token::{Kind, Token};
+use row::Row;
 use signature::signature::Signature;
 use terms::pattern::Node;
 
-// The arity of a symbol, or 255 for a name that no line has.
-fn arity_of(symbol: Option<Node>) -> u8
-    ensures { result ≡ arity_code symbol }
+// The arity of a symbol, unless no line has its name.
+fn arity_of(symbol: Option<Node>) -> Option<u8>
+    ensures { result ≡ arity_in symbol }
 {
     match symbol {
-        Some(Node::App { symbol: _, arity }) => arity,
-        _ => 255,
+        Some(Node::App { arity, .. }) => Some(arity),
+        _ => None,
     }
 }
 
@@ -32,78 +34,66 @@ fn bumped(args: u8) -> u8
 
 impl Uses {
     fn new() -> Uses
-        ensures stack { stack_of result ≡ [] }
+        ensures stack { items result.frames ≡ [] }
         ensures lowest { result.lowest ≡ None }
-        ensures depth { result.depth ≡ 0 }
     {
-        let nothing = Frame {
-            place: 0,
-            arity: 0,
-            args: 0,
-        };
         Uses {
-            frames: [nothing; DEEPEST],
-            depth: 0,
+            frames: Row::new(Frame {
+                place: 0,
+                arity: None,
+                args: 0,
+            }),
             lowest: None,
         }
     }
 
-    fn note(&mut self, right: bool, place: usize)
-        ensures same { (self.new.frames ≡ self.old.frames) × (self.new.depth ≡ self.old.depth) }
-        ensures noted { self.new.lowest ≡ note_of right self.old.lowest place }
+    // A symbol is misused at a place.
+    fn note(&mut self, place: usize)
+        ensures same { self.new.frames ≡ self.old.frames }
+        ensures noted { self.new.lowest ≡ low self.old.lowest place }
     {
-        if !right {
-            self.lowest = match self.lowest {
-                Some(lowest) => Some(lowest.min(place)),
-                None => Some(place),
-            };
-        }
+        self.lowest = Some(self.lowest.map_or(place, |lowest| lowest.min(place)));
     }
 
     fn open(&mut self, frame: Frame)
-        requires { self.old.depth < 32768 }
+        requires { length (items self.old.frames) < 32768 }
         ensures stack { stack_of self.new ≡ frame ∷ stack_of self.old }
         ensures lowest { self.new.lowest ≡ self.old.lowest }
-        ensures depth { self.new.depth ≡ self.old.depth + 1 }
+        ensures depth { length (items self.new.frames) ≡ length (items self.old.frames) + 1 }
     {
-        self.frames[self.depth] = frame;
-        self.depth += 1;
+        self.frames.push(frame).unwrap();
     }
 
     fn comma(&mut self)
         ensures stack { stack_of self.new ≡ at_comma (stack_of self.old) }
         ensures lowest { self.new.lowest ≡ self.old.lowest }
-        ensures depth { self.new.depth ≡ self.old.depth }
+        ensures depth { length (items self.new.frames) ≡ length (items self.old.frames) }
     {
-        if self.depth > 0 {
-            let Frame { place, arity, args } = self.frames[self.depth - 1];
-            self.frames[self.depth - 1] = Frame {
-                place,
-                arity,
-                args: bumped(args),
-            };
+        if let Some(frame) = self.frames.pop() {
+            let args = bumped(frame.args);
+            self.open(Frame { args, ..frame });
         }
     }
 
     fn close(&mut self)
         ensures stack { stack_of self.new ≡ at_close (stack_of self.old) }
         ensures lowest { self.new.lowest ≡ noted_at_close (stack_of self.old) self.old.lowest }
-        ensures depth { self.new.depth ≤ self.old.depth }
+        ensures depth { length (items self.new.frames) ≤ length (items self.old.frames) }
     {
-        if self.depth > 0 {
-            self.depth -= 1;
-            let frame = self.frames[self.depth];
-            self.note(frame.args == frame.arity, frame.place as usize);
+        if let Some(frame) = self.frames.pop() {
+            if frame.arity != Some(frame.args) {
+                self.note(frame.place as usize);
+            }
         }
     }
 
     // One token more; `opened` says whether a parenthesis opens behind it.
     fn see(&mut self, signature: &Signature, token: &Token<'_>, opened: bool)
-        requires room { self.old.depth < 32768 }
+        requires room { length (items self.old.frames) < 32768 }
         requires near { token.now.place < 65536 }
         ensures stack { stack_of self.new ≡ stacked signature.now (stack_of self.old) (lexeme_of token.now) opened }
         ensures lowest { self.new.lowest ≡ noted signature.now (stack_of self.old) self.old.lowest (lexeme_of token.now) opened }
-        ensures depth { self.new.depth ≤ self.old.depth + 1 }
+        ensures depth { length (items self.new.frames) ≤ length (items self.old.frames) + 1 }
     {
         match token.kind {
             Kind::Word => {
@@ -114,8 +104,8 @@ impl Uses {
                         arity,
                         args: 1,
                     });
-                } else {
-                    self.note(arity == 0, token.place);
+                } else if arity != Some(0) {
+                    self.note(token.place);
                 }
             }
             Kind::Comma => self.comma(),
@@ -133,7 +123,7 @@ pub fn first_misused(signature: &Signature, text: &[u8], at: usize) -> Option<us
     let mut uses = Uses::new();
     let mut place = at;
     while let Some(token) = next_token(text, place) {
-        place = token.place + token.bytes.len();
+        place = token.end();
         uses.see(signature, &token, opens(text, place));
     }
     uses.lowest

@@ -1,54 +1,49 @@
-ghost use Rattle.std.specs.Prelude.{◌≡◌, ◌+◌, ◌<◌, ◌≤◌, [], length, take, drop, is_some, if◌then◌else◌, Some, None, nat_lt};
+ghost use Rattle.std.specs.Prelude.{◌≡◌, [], position, length, take, drop, is_some, if◌then◌else◌, Some, None, nat_lt};
+ghost use Rattle.std.specs.Str.{bytes_eq};
+ghost use Rattle.row.specs.Items.{items};
 ghost use Rattle.formula.specs.Symbols.{index_of};
 ghost use Rattle.formula.specs.Numbering.{with_name};
 ghost use Rattle.formula.specs.Rows.{names_in};
 
 use super::{Span, Variables};
-use grammar::machine::is_word;
+use row::Row;
 
 impl Variables {
     pub fn new() -> Variables
-        ensures { result.count ≡ 0 }
+        ensures { items result.spans ≡ [] }
     {
         Variables {
-            spans: [Span { place: 0, len: 0 }; 16],
-            count: 0,
+            spans: Row::new(Span { place: 0, len: 0 }),
         }
     }
 
     pub fn count(&self) -> usize
-        ensures { result ≡ self.now.count }
+        ensures { result ≡ length (items self.now.spans) }
     {
-        self.count
+        self.spans.len()
     }
 
-    // The number of the variable that stands at a place of the text.
-    fn find(&self, text: &[u8], word: &[u8]) -> usize
-        ensures { result ≡ index_of word.now (names_in text.now self.now) }
+    // The number of the variable that is spelled like this.
+    fn find(&self, text: &[u8], word: &[u8]) -> Option<usize>
+        ensures { result ≡ position (λ (s : Span). bytes_eq (take s.len (drop s.place text.now)) word.now) (items self.now.spans) }
     {
-        let count = self.count;
-        for k in 0..count {
-            if is_word(slice(text, self.spans[k]), word) {
-                return k;
-            }
-        }
-        count
+        self.spans
+            .as_slice()
+            .iter()
+            .position(|span| slice(text, *span) == word)
     }
 
-    // The same, and the variable takes its place in the table if it is new; None if there is no place left.
+    // The number of the variable that stands at a place of the text, which takes its place in the table if it is new; None if there is no
+    // place left.
     pub fn number(&mut self, text: &[u8], span: Span) -> Option<u8>
         ensures number { result ≡ (if nat_lt (index_of (take span.len (drop span.place text.now)) (names_in text.now self.old)) 16 then Some (index_of (take span.len (drop span.place text.now)) (names_in text.now self.old)) else None) }
         ensures names { names_in text.now self.new ≡ (if is_some result then with_name (names_in text.now self.old) (take span.len (drop span.place text.now)) else names_in text.now self.old) }
     {
-        let k = self.find(text, slice(text, span));
-        if k >= 16 {
-            return None;
-        }
-        if k < self.count {
+        if let Some(k) = self.find(text, slice(text, span)) {
             return Some(k as u8);
         }
-        self.spans[k] = span;
-        self.count = k + 1;
+        let k = self.count();
+        self.spans.push(span).ok()?;
         Some(k as u8)
     }
 }
@@ -57,15 +52,6 @@ impl Variables {
 fn slice(text: &[u8], span: Span) -> &[u8]
     ensures { result.now ≡ take span.len (drop span.place text.now) }
 {
-    let Span { place, len } = span;
-    let all = text.len();
-    if place >= all {
-        return &text[all..];
-    }
-    let rest = &text[place..];
-    if len >= rest.len() {
-        rest
-    } else {
-        &rest[0..len]
-    }
+    let rest = text.get(span.place..).unwrap_or(&[]);
+    rest.get(..span.len).unwrap_or(rest)
 }

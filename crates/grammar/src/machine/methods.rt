@@ -1,32 +1,12 @@
-ghost use Rattle.std.specs.Prelude.{◌≡◌, ◌+◌, ◌^◌, ◌<◌, ◌≤◌, Bool, ◌&&◌, length, Decides};
+ghost use Rattle.std.specs.Prelude.{◌≡◌, ◌+◌, ◌^◌, ◌<◌, Bool};
 ghost use Rattle.lexer.specs.Next.{lexeme_of};
-ghost use Rattle.grammar.specs.Kinds.{same_kind, same_bytes};
 ghost use Rattle.grammar.specs.Outcomes.{Walked};
-ghost use Rattle.grammar.specs.Machine.{expect as expected, spot, term_start, inside as inside_of, outside as outside_of, behind as behind_of, next as next_of, is_done, depth_of};
+ghost use Rattle.grammar.specs.Machine.{spot, term_start, inside as inside_of, outside as outside_of, behind as behind_of, next as next_of, is_done, depth_of};
 
 use super::{Spot, State};
 use crate::part::Fault;
 use lexer::scanner::next_token;
 use lexer::token::{Kind, Token};
-
-pub fn is_kind(a: Kind, b: Kind) -> bool
-    ensures { result ≡ same_kind a b }
-{
-    a as u8 == b as u8
-}
-
-// Whether a word is a fixed byte string.
-pub fn is_word(word: &[u8], fixed: &[u8]) -> bool
-    ensures { result ≡ same_bytes word.now fixed.now }
-{
-    word == fixed
-}
-
-fn expect(met: bool, then: State) -> Option<State>
-    ensures { result ≡ expected met then }
-{
-    if met { Some(then) } else { None }
-}
 
 impl Spot {
     // The left side of a literal.
@@ -58,11 +38,7 @@ impl Spot {
             Kind::Comma => Some(State::Term(self)),
             Kind::Close => {
                 let depth = self.depth - 1;
-                Some(State::Closed(Spot {
-                    depth,
-                    right: self.right,
-                    wrapped: self.wrapped,
-                }))
+                Some(State::Closed(Spot { depth, ..self }))
             }
             _ => None,
         }
@@ -71,17 +47,13 @@ impl Spot {
     fn outside(self, kind: Kind) -> Option<State>
         ensures { result ≡ outside_of self kind }
     {
-        let wrapped = self.wrapped;
         match kind {
-            Kind::Close if self.right => Some(if wrapped {
-                State::Unwrapped
-            } else {
-                State::Ended
-            }),
+            Kind::Close if self.right && self.wrapped => Some(State::Unwrapped),
+            Kind::Close if self.right => Some(State::Ended),
             Kind::Equal | Kind::Unequal if !self.right => Some(State::Term(Spot {
                 depth: 0,
                 right: true,
-                wrapped,
+                ..self
             })),
             _ => None,
         }
@@ -110,33 +82,24 @@ impl State {
         requires { depth_of self + 1 < 2 ^ 64 }
         ensures { result ≡ next_of self (lexeme_of token.now) }
     {
-        let kind = token.kind;
-        match self {
-            State::Start => expect(
-                is_kind(kind, Kind::Word) && is_word(token.bytes, b"cnf"),
-                State::Opening,
-            ),
-            State::Opening => expect(is_kind(kind, Kind::Open), State::Name),
-            State::Name => expect(is_kind(kind, Kind::Word), State::NameComma),
-            State::NameComma => expect(is_kind(kind, Kind::Comma), State::Role),
-            State::Role => expect(is_kind(kind, Kind::Word), State::RoleComma),
-            State::RoleComma => expect(is_kind(kind, Kind::Comma), State::Body),
-            State::Body if is_kind(kind, Kind::Open) => Some(State::Term(Spot::left(true))),
-            State::Body => Spot::left(false).start(kind),
-            State::Term(spot) => spot.start(kind),
-            State::Named(spot) if is_kind(kind, Kind::Open) => {
+        match (self, token.kind) {
+            (State::Start, Kind::Word) if token.bytes == b"cnf".as_slice() => Some(State::Opening),
+            (State::Opening, Kind::Open) => Some(State::Name),
+            (State::Name, Kind::Word) => Some(State::NameComma),
+            (State::NameComma, Kind::Comma) => Some(State::Role),
+            (State::Role, Kind::Word) => Some(State::RoleComma),
+            (State::RoleComma, Kind::Comma) => Some(State::Body),
+            (State::Body, Kind::Open) => Some(State::Term(Spot::left(true))),
+            (State::Body, kind) => Spot::left(false).start(kind),
+            (State::Term(spot), kind) => spot.start(kind),
+            (State::Named(spot), Kind::Open) => {
                 let depth = spot.depth + 1;
-                Some(State::Term(Spot {
-                    depth,
-                    right: spot.right,
-                    wrapped: spot.wrapped,
-                }))
+                Some(State::Term(Spot { depth, ..spot }))
             }
-            State::Named(spot) => spot.behind(kind),
-            State::Closed(spot) => spot.behind(kind),
-            State::Unwrapped => expect(is_kind(kind, Kind::Close), State::Ended),
-            State::Ended => expect(is_kind(kind, Kind::Dot), State::Done),
-            State::Done => None,
+            (State::Named(spot) | State::Closed(spot), kind) => spot.behind(kind),
+            (State::Unwrapped, Kind::Close) => Some(State::Ended),
+            (State::Ended, Kind::Dot) => Some(State::Done),
+            _ => None,
         }
     }
 }
@@ -150,7 +113,7 @@ pub fn formula_end(text: &[u8], at: usize) -> Result<usize, Fault>
     while !state.is_done() {
         let token = next_token(text, end).ok_or(Fault { place: text.len() })?;
         state = state.next(&token).ok_or(Fault { place: token.place })?;
-        end = token.place + token.bytes.len();
+        end = token.end();
     }
     Ok(end)
 }

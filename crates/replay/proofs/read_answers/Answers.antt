@@ -10,17 +10,17 @@ returns-in-Err c = too_long c.args.text.now (vec_items c.new-answers.result) (ve
 
 pub returns-in-Err-next : goal.returns-in-Err-next
 returns-in-Err-next c =
-    all_read c.args.text.now c.loop-step.reader.text.now c.loop-step.reader.at (vec_items c.loop-step.answers) (vec_items c.push-in-Err-next.new.self) (Refused c.in-Err-next.refusal ∷ []) c.in-Ok.ensures.0 c.loop-step.invariant (refused c.in-Err-next.ensures.handed) c.in_ok-push-in-Err-next.ensures.items
+    all_read c.args.text.now c.loop-part.reader.text.now c.loop-part.reader.at (vec_items c.loop-part.answers) (vec_items c.push-in-Err-next.new.self) (Refused c.in-Err-next.refusal ∷ []) c.in-Ok.ensures.0 c.loop-part.invariant (refused c.in-Err-next.ensures.handed) c.in_ok-push-in-Err-next.ensures.items
 
-pub returns-in_default : goal.returns-in_default
-returns-in_default c =
-    let none = none_left c.loop-step.reader.text.now c.loop-step.reader.at c.next.new.self.at c.in-Ok-next.step c.in_default.is c.in-Ok-next.ensures.handed in
-    all_read c.args.text.now c.loop-step.reader.text.now c.loop-step.reader.at (vec_items c.loop-step.answers) (vec_items c.push-in_default.new.self) (Nothing ∷ []) c.in-Ok.ensures.0 c.loop-step.invariant none c.in_ok-push.ensures.items
+pub returns-in-Ok-None : goal.returns-in-Ok-None
+returns-in-Ok-None c =
+    let none = none_left c.loop-part.reader.text.now c.loop-part.reader.at c.next.new.self.at c.in-Ok-None.field-0 c.in-Ok-None.field-0-is c.in-Ok-None.ensures.handed in
+    all_read c.args.text.now c.loop-part.reader.text.now c.loop-part.reader.at (vec_items c.loop-part.answers) (vec_items c.push-in-Ok-None.new.self) (Nothing ∷ []) c.in-Ok.ensures.0 c.loop-part.invariant none c.in_ok-push-in-Ok-None.ensures.items
 
-pub loop-step-smaller : goal.loop-step-smaller
-loop-step-smaller c =
-    one_fewer c.loop-step.reader.text.now c.next.new.self.text.now c.loop-step.reader.at c.next.new.self.at c.in-Ok-next.step c.in-Some.part c.in-Ok-next.ensures.same c.in-Some.is c.in-Ok-next.ensures.handed
+pub loop-part-smaller : goal.loop-part-smaller
+loop-part-smaller c =
+    one_fewer c.loop-part.reader.text.now c.next.new.self.text.now c.loop-part.reader.at c.next.new.self.at c.in-Ok-Some.field-0 c.in-Ok-Some.part c.in-Ok-Some.ensures.same c.in-Ok-Some.field-0-is c.in-Ok-Some.ensures.handed
 
-pub loop-step-preserved : goal.loop-step-preserved
-loop-step-preserved c =
-    more_read c.args.text.now c.loop-step.reader.text.now c.next.new.self.text.now c.loop-step.reader.at c.next.new.self.at (vec_items c.loop-step.answers) (vec_items c.push-in-loop-step.new.self) c.in-Ok-next.step c.in-Some.part c.loop-step.invariant c.in-Ok-next.ensures.same c.in-Some.is c.in-Ok-next.ensures.handed c.in_ok-push-2.ensures.items
+pub loop-part-preserved : goal.loop-part-preserved
+loop-part-preserved c =
+    more_read c.args.text.now c.loop-part.reader.text.now c.next.new.self.text.now c.loop-part.reader.at c.next.new.self.at (vec_items c.loop-part.answers) (vec_items c.push-in-Ok-Some.new.self) c.in-Ok-Some.field-0 c.in-Ok-Some.part c.loop-part.invariant c.in-Ok-Some.ensures.same c.in-Ok-Some.field-0-is c.in-Ok-Some.ensures.handed c.in_ok-push-in-Ok-Some.ensures.items

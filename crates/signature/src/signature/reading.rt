@@ -3,8 +3,9 @@ ghost use Rattle.signature.specs.Signatures.{lines_read};
 
 use super::Signature;
 use crate::line::first_line;
-use crate::symbol::position;
+use crate::symbol::is_taken;
 use refusal::Refusal;
+use row::Row;
 
 impl Signature {
     // The signature that the text writes, a line for each symbol.
@@ -12,29 +13,18 @@ impl Signature {
         ensures outcome { Read text.now (lines_read result) }
         ensures once { ReadsOnce }
     {
-        let Some(first) = first_line(text) else {
-            return Err(Refusal::SignatureLine(1));
-        };
-        let mut symbols = [first.symbol; 64];
-        let mut count = 1;
-        let len = first.len;
-        let mut rest = &text[len..];
+        let (first, _) = first_line(text).ok_or(Refusal::SignatureLine(1))?;
+        let mut symbols = Row::new(first);
+        let mut rest = text;
         while !rest.is_empty() {
-            let line = count + 1;
-            if count == 64 {
-                return Err(Refusal::SignatureLine(line));
+            let bad_line = Refusal::SignatureLine(symbols.len() + 1);
+            let (symbol, after) = first_line(rest).ok_or(bad_line)?;
+            if is_taken(symbols.as_slice(), symbol.name.bytes()) {
+                return Err(bad_line);
             }
-            let Some(next) = first_line(rest) else {
-                return Err(Refusal::SignatureLine(line));
-            };
-            if position(&symbols[..count], next.symbol.name().bytes()).is_some() {
-                return Err(Refusal::SignatureLine(line));
-            }
-            symbols[count] = next.symbol;
-            count = line;
-            let len = next.len;
-            rest = &rest[len..];
+            symbols.push(symbol).or(Err(bad_line))?;
+            rest = after;
         }
-        Ok(Signature { symbols, count })
+        Ok(Signature { symbols })
     }
 }

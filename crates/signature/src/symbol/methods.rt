@@ -1,5 +1,7 @@
-ghost use Rattle.std.specs.Prelude.{◌≡◌, ℕ, ◌<◌, [], length, MatchOption, slice_index_or};
-ghost use Rattle.signature.specs.Lines.{names, Absent};
+ghost use Rattle.std.specs.Prelude.{◌≡◌, MatchOption};
+ghost use Rattle.std.specs.List.{list_any};
+ghost use Rattle.std.specs.Str.{bytes_eq};
+ghost use Rattle.signature.specs.Lines.{spelled};
 ghost use Rattle.signature.specs.Texts.{Line, WellFormed, Fields};
 ghost use Rattle.signature.specs.Signatures.{line_of};
 
@@ -24,34 +26,11 @@ impl Symbol {
             weight: weight as u8,
         })
     }
-
-    pub(crate) fn name(&self) -> Name
-        ensures { result ≡ self.now.name }
-    {
-        self.name
-    }
-
-    pub(crate) fn arity(&self) -> u8
-        ensures { result ≡ self.now.arity }
-    {
-        self.arity
-    }
-
-    pub(crate) fn weight(&self) -> u8
-        ensures { result ≡ self.now.weight }
-    {
-        self.weight
-    }
 }
 
-// The place of the symbol of this name.
-pub(crate) fn position(symbols: &[Symbol], name: &[u8]) -> Option<usize>
-    ensures { MatchOption result (Absent name.now (names symbols.now)) (λ k. (k < length symbols.now) × (slice_index_or (names symbols.now) k [] ≡ name.now)) }
+// Whether one of the symbols has this name.
+pub(crate) fn is_taken(symbols: &[Symbol], name: &[u8]) -> bool
+    ensures { result ≡ list_any (λ (y : Symbol). bytes_eq (spelled y.name) name.now) symbols.now }
 {
-    for (k, symbol) in symbols.iter().enumerate() {
-        if symbol.name().is(name) {
-            return Some(k);
-        }
-    }
-    None
+    symbols.iter().any(|symbol| symbol.name.bytes() == name)
 }

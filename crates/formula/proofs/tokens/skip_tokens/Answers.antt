@@ -10,12 +10,12 @@ given_out i n ts h e = drop_all n ts (omega (arith, sym (length-drop i ts) ∙ a
 pub returns-in_default : goal.returns-in_default
 returns-in_default c =
     let none = c.in_default.ensures in
-    none ∙ sym (given_out c.loop-i.i c.args.n _ (omega arith) (sym c.loop-i.invariant ∙ none))
+    none ∙ sym (given_out c.loop.counter c.args.n _ (omega arith) (sym c.loop.invariant ∙ none))
 
-pub loop-i-preserved : goal.loop-i-preserved
-loop-i-preserved c = ap (drop 1) (sym c.in-Some.ensures.0 ∙ c.loop-i.invariant) ∙ drop-drop 1 c.loop-i.i _
+pub loop-preserved : goal.loop-preserved
+loop-preserved c = rw c.end-place.ensures (ap (drop 1) (sym c.in-Some.ensures.0 ∙ c.loop.invariant) ∙ drop-drop 1 c.loop.counter _)
 
 pub returns : goal.returns
 returns c =
-    let end : c.loop-i.i ≡ c.args.n = omega arith in
-    c.loop-i.invariant ∙ ap (λ k. drop k (tokens_from (drop c.args.at c.args.text.now) c.args.at)) end
+    let end : c.loop.counter ≡ c.args.n = omega arith in
+    c.loop.invariant ∙ ap (λ k. drop k (tokens_from (drop c.args.at c.args.text.now) c.args.at)) end

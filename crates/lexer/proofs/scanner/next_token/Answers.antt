@@ -1,47 +1,53 @@
-use Rattle.std.proofs.Common.{◌+◌, drop, refl, ap, ◌∙◌, arith}
+use Rattle.std.proofs.Common.{rules, ◌+◌, ◌≤◌, Some, None, length, refl, ap, ◌∙◌, arith}
 use Rattle.std.proofs.lemmas.List.{drop_all, drop-drop}
 use Rattle.lexer.specs.Tokens.{tokens_from}
-use Rattle.lexer.proofs.Lexing.{moved, tokens_gap, tokens_end, tokens_none, found}
+use Rattle.lexer.specs.declared.token.Front.TheVariants.{Gap, Piece}
+use Rattle.lexer.proofs.Lexing.{stands, moved, tokens_gap, tokens_end, tokens_none, found}
 use Rattle.lexer.proofs.scanner.next_token.Goals as goal
 
-pub returns-in-Nothing : goal.returns-in-Nothing
-returns-in-Nothing c =
-    let m = moved c.args.text.now c.loop-place.place _ c.loop-place-test.true c.in-Nothing.ensures in
-    c.loop-place.invariant.0 ∙ tokens_end _ _ m.0
+pub returns-in_err-get : goal.returns-in_err-get
+returns-in_err-get c =
+    let past : length c.args.text.now ≤ c.loop-n.place = search rules in
+    rw c.from_residual.ensures (c.loop-n.invariant.same ∙ ap (λ bs. tokens_from bs c.loop-n.place) (drop_all c.loop-n.place c.args.text.now past) ∙ tokens_none _)
+
+pub returns-in_err-n : goal.returns-in_err-n
+returns-in_err-n c =
+    let none = stands c.args.text.now c.in_ok-get.field-0.now c.loop-n.place None (search rules) (search rules) in
+    rw c.from_residual-in_err-n.ensures (c.loop-n.invariant.same ∙ tokens_end _ _ none)
+
+pub loop-n-preserved : goal.loop-n-preserved
+loop-n-preserved c =
+    let text = c.args.text.now in
+    let gap = stands text c.in_ok-get.field-0.now c.loop-n.place (Some (Gap c.in-Gap.n)) (search rules) (search rules) in
+    record {
+      same = c.loop-n.invariant.same ∙ tokens_gap _ c.loop-n.place c.in-Gap.n gap ∙ ap (λ bs. tokens_from bs (c.loop-n.place + c.in-Gap.n)) (drop-drop c.in-Gap.n c.loop-n.place text);
+      behind = omega (arith, c.loop-n.invariant.behind);
+    }
 
 pub overflow_add-place : goal.overflow_add-place
 overflow_add-place c =
-    let m = moved c.args.text.now c.loop-place.place _ c.loop-place-test.true c.in-Gap.ensures in
-    omega (arith, m.1.1)
+    let gap = stands c.args.text.now c.in_ok-get.field-0.now c.loop-n.place (Some (Gap c.in-Gap.n)) (search rules) (search rules) in
+    omega (arith, (moved c.args.text.now c.loop-n.place _ gap).1)
 
-pub loop-place-smaller : goal.loop-place-smaller
-loop-place-smaller c =
-    let m = moved c.args.text.now c.loop-place.place _ c.loop-place-test.true c.in-Gap.ensures in
-    omega (arith, m.1.0, m.1.1)
-
-pub loop-place-preserved : goal.loop-place-preserved
-loop-place-preserved c =
-    let text = c.args.text.now in
-    let m = moved text c.loop-place.place _ c.loop-place-test.true c.in-Gap.ensures in
-    let gap = tokens_gap (drop c.loop-place.place text) c.loop-place.place c.in-Gap.n m.0 in
-    (c.loop-place.invariant.0 ∙ gap ∙ ap (λ bs. tokens_from bs (c.loop-place.place + c.in-Gap.n)) (drop-drop c.in-Gap.n c.loop-place.place text), omega (arith, c.loop-place.invariant.1))
+pub loop-n-smaller : goal.loop-n-smaller
+loop-n-smaller c =
+    let gap = stands c.args.text.now c.in_ok-get.field-0.now c.loop-n.place (Some (Gap c.in-Gap.n)) (search rules) (search rules) in
+    let m = moved c.args.text.now c.loop-n.place _ gap in
+    omega (arith, m.0, m.1)
 
 pub overflow_add-bytes : goal.overflow_add-bytes
 overflow_add-bytes c =
-    let m = moved c.args.text.now c.loop-place.place _ c.loop-place-test.true c.in-Piece.ensures in
-    omega (arith, m.1.1)
+    let piece = stands c.args.text.now c.in_ok-get.field-0.now c.loop-n.place (Some (Piece c.in-Piece.kind c.in-Piece.n)) (search rules) (search rules) in
+    omega (arith, (moved c.args.text.now c.loop-n.place _ piece).1)
 
 pub slice_bounds-bytes-end : goal.slice_bounds-bytes-end
 slice_bounds-bytes-end c =
-    let m = moved c.args.text.now c.loop-place.place _ c.loop-place-test.true c.in-Piece.ensures in
-    omega (arith, m.1.1)
+    let inside : c.loop-n.place ≤ length c.args.text.now = search rules in
+    let piece = stands c.args.text.now c.in_ok-get.field-0.now c.loop-n.place (Some (Piece c.in-Piece.kind c.in-Piece.n)) (search rules) (search rules) in
+    omega (arith, inside, (moved c.args.text.now c.loop-n.place _ piece).1)
 
 pub returns-in-Piece : goal.returns-in-Piece
 returns-in-Piece c =
-    let text = c.args.text.now in
-    let m = moved text c.loop-place.place _ c.loop-place-test.true c.in-Piece.ensures in
-    found text c.args.at c.loop-place.place c.in-Piece.kind c.in-Piece.n _ c.loop-place.invariant.0 c.loop-place.invariant.1 c.loop-place-test.true m refl
-
-pub returns : goal.returns
-returns c =
-    c.loop-place.invariant.0 ∙ ap (λ bs. tokens_from bs c.loop-place.place) (drop_all c.loop-place.place c.args.text.now c.loop-place-test.false) ∙ tokens_none _
+    let inside : c.loop-n.place ≤ length c.args.text.now = search rules in
+    let piece = stands c.args.text.now c.in_ok-get.field-0.now c.loop-n.place (Some (Piece c.in-Piece.kind c.in-Piece.n)) (search rules) (search rules) in
+    found c.args.text.now c.args.at c.loop-n.place c.in-Piece.kind c.in-Piece.n _ c.loop-n.invariant.same c.loop-n.invariant.behind inside piece refl

@@ -6,6 +6,6 @@ use Rattle.script.proofs.line.add_of.Goals as goal
 
 pub returns-in_err-formula : goal.returns-in_err-formula
 returns-in_err-formula c =
-    let p = err_from_is_err_and c.from_residual.result c.from_residual.ensures.1 in
+    let p = err_from_is_err_and c.from_residual-in_err-formula.result c.from_residual-in_err-formula.ensures.1 in
     rw (p.1, p.2) (λ m f.
-    c.in_err-formula.ensures m f.1.0 (subst (λ (t : List ℕ). Quoted t f.1.0) (same_more c.in-Some.ensures f.1.1.number) f.1.1.formula))
+    c.in_err-formula.ensures m f.1.0 (subst (λ (t : List ℕ). Quoted t f.1.0) (same_more c.in_ok-number.ensures f.1.1.number) f.1.1.formula))

@@ -1,5 +1,5 @@
 use Rattle.std.proofs.Common.{◌≡◌, ℕ, List, ◌∷◌, ◌++◌, codes, sym, ap, ◌∙◌, subst, inl, inr}
-use Rattle.std.proofs.lemmas.Result.{MatchResult-weaker}
+use Rattle.std.proofs.lemmas.Result.{MatchResult-weaker, err_from_is_err_and}
 use Rattle.fields.specs.Cuts.{Without, Cut}
 use Rattle.fields.proofs.Cutting.{uncut, cut_is}
 use Rattle.script.specs.Spellings.{word}
@@ -19,15 +19,17 @@ first_word {line} {field} {after} c k (inr s) =
     let p = cut_is (word (word_of c)) s.0 k (word_free (word_of c)) s.1 in
     (p.0, form c after (subst (Fields c) (sym p.1) s.2))
 
-pub returns-in-Some-word_of : goal.returns-in-Some-word_of
-returns-in-Some-word_of c =
+pub returns-in_ok-try_from-in-Some : goal.returns-in_ok-try_from-in-Some
+returns-in_ok-try_from-in-Some c =
     let k = c.in-Some.ensures in
-    let spelled = c.in-Some-word_of.ensures in
+    let spelled = c.in_ok-try_from-in-Some.ensures in
     MatchResult-weaker c.fields_of.result c.fields_of.ensures
     (λ d h. inr (_, k.whole ∙ ap (λ t. t ++ (32 ∷ c.in-Some.field.after.now)) (spelled ∙ ap word (sym h.0)), h.1))
     (λ e h m d s.
     let p = first_word d k s in
     h m (subst (λ (w : Word). Form w c.in-Some.field.after.now) (same_word _ _ (sym p.0 ∙ spelled)) p.1))
 
-pub returns-in-None : goal.returns-in-None
-returns-in-None c m d s = c.in-None.ensures (word_of d) (first_word d c.in-Some.ensures s).0
+pub returns-in_err-try_from-in-Some : goal.returns-in_err-try_from-in-Some
+returns-in_err-try_from-in-Some c =
+    let p = err_from_is_err_and c.from_residual.result c.from_residual.ensures.1 in
+    rw p.1 (λ m d s. c.in_err-try_from-in-Some.ensures (word_of d) (first_word d c.in-Some.ensures s).0)

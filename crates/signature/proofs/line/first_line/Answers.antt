@@ -1,8 +1,6 @@
-use Rattle.std.proofs.Common.{◌≡◌, ◌++◌, length, decimal, ap, ◌∙◌, arith, length-append}
-use Rattle.signature.specs.Texts.{text_of}
-use Rattle.signature.specs.Signatures.{line_of}
+use Rattle.std.proofs.Common.{decimal, ◌∙◌}
 use Rattle.fields.proofs.Cutting.{uncut}
-use Rattle.signature.proofs.Cuts.{flat, name_cut, arity_cut, weight_cut, line_whole, past, text_some}
+use Rattle.signature.proofs.Cuts.{flat, name_cut, arity_cut, weight_cut, line_whole}
 use Rattle.signature.proofs.line.first_line.Goals as goal
 
 pub returns-in_err-name : goal.returns-in_err-name
@@ -31,11 +29,5 @@ returns-in_err-symbol c =
     let w = weight_cut l after ok _ _ _ c.in_ok-weight.ensures a.1 in
     c.in_err-symbol.ensures l ok (record { name_is = n.0; arity_is = a.0; weight_is = w.0 }))
 
-whole : (c : goal.In_ok-symbol) → c.args.text.now ≡ text_of (line_of c.in_ok-symbol.symbol) ++ c.in_ok-weight.weight.after.now
-whole c = line_whole _ c.in_ok-name.ensures c.in_ok-arity.ensures c.in_ok-weight.ensures c.in_ok-symbol.ensures
-
-pub overflow_sub-result : goal.overflow_sub-result
-overflow_sub-result c = omega (arith, ap length (whole c), length-append (text_of (line_of c.in_ok-symbol.symbol)) c.in_ok-weight.weight.after.now)
-
 pub returns : goal.returns
-returns c = past c.args.text.now (text_of (line_of c.in_ok-symbol.symbol)) c.in_ok-weight.weight.after.now (whole c) (text_some (line_of c.in_ok-symbol.symbol))
+returns c = line_whole _ c.in_ok-name.ensures c.in_ok-arity.ensures c.in_ok-weight.ensures c.in_ok-symbol.ensures

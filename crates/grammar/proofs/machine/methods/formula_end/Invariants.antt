@@ -5,11 +5,12 @@ use Rattle.grammar.specs.declared.machine.State.TheVariants as state
 use Rattle.grammar.proofs.machine.methods.formula_end.Given as goal
 
 abbrev pub invariant-loop-state : goal.invariant-loop-state
-invariant-loop-state l =
-    (walk l.state l.end (tokens_from (drop l.end l.text) l.end) (length l.text) ≡ walk state.Start l.at (tokens_from (drop l.at l.text) l.at) (length l.text))
-    × (depth_of l.state ≤ l.end)
-    × (l.at ≤ l.end)
-    × (is_done l.state ≡ true → l.end ≤ length l.text)
+invariant-loop-state l = record {
+  same : walk l.state l.end (tokens_from (drop l.end l.text) l.end) (length l.text) ≡ walk state.Start l.at (tokens_from (drop l.at l.text) l.at) (length l.text);
+  deep : depth_of l.state ≤ l.end;
+  behind : l.at ≤ l.end;
+  within : is_done l.state ≡ true → l.end ≤ length l.text;
+}
 
 abbrev pub decreases-loop-state : goal.decreases-loop-state
 decreases-loop-state l = length l.text - l.end

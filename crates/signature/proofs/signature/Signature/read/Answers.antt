@@ -1,109 +1,87 @@
-use Rattle.std.proofs.Common.{◌≡◌, ℕ, ◌+◌, ◌-◌, ◌<◌, ◌≤◌, true, false, eqb, List, [], ◌++◌, map, length, get_or, take, drop, is_some, Some, None, Option, sym, refl, ap, ◌∙◌, inl, inr, append-nil, arith, MatchOption}
-use mathlib.Core.Bool.{false≢true}
+use Rattle.std.proofs.Common.{rules, ◌≡◌, ◌+◌, ◌<◌, ◌≤◌, [], ◌∷◌, ◌++◌, None, length, refl, arith, map, inr, ap, append-nil, ◌∙◌}
 use Rattle.std.specs.List.{flat_map}
-use Rattle.std.proofs.lemmas.Bool.{eqb-false, eqb-true}
-use Rattle.std.proofs.lemmas.List.{length-map, length-take-le, length-set, take_rest, nil_from_length}
-use Rattle.signature.specs.Lines.{names, spelled, Absent}
+use Rattle.std.proofs.lemmas.List.{length-map, length-take-le, nil_from_length}
+use Rattle.std.proofs.lemmas.Option.{MatchOption-at_none}
+use Rattle.std.proofs.lemmas.Result.{err_from_is_err_and}
+use Rattle.refusal.specs.declared.Refusal.TheVariants.{SignatureLine}
+use Rattle.row.specs.Items.{items}
+use Rattle.signature.specs.Lines.{spelled}
 use Rattle.signature.specs.Texts.{text_of}
 use Rattle.signature.specs.Signatures.{line_of}
-use Rattle.signature.proofs.Sounds.{refused, last_well, bad_again, text_more, apart_more, sound_lines}
+use Rattle.signature.proofs.Symbols.{taken_at, free}
+use Rattle.signature.proofs.Sounds.{bad_line, refused, last_well, bad_again, text_more, apart_more, sound_lines}
 use Rattle.signature.proofs.Once.{once}
 use Rattle.signature.proofs.signature.Signature.read.Goals as goal
 
-some_case : {A : Type 0} (o : Option A) (P : Type 0) (Q : A → Type 0) → is_some o ≡ true → MatchOption o P Q → (x : A) × Q x
-some_case None P Q h k = absurd (false≢true h)
-some_case (Some x) P Q h k = (x, k)
+pub returns-in_err-first : goal.returns-in_err-first
+returns-in_err-first c =
+    let p = err_from_is_err_and c.from_residual.result c.from_residual.ensures.1 in
+    let none : c.first_line.result ≡ None = grind arith in
+    let is : c.in_err-first.field-0.0 ≡ SignatureLine 1 = grind arith in
+    record { outcome = rw (p.1, p.2, is) (bad_line c.args.text.now c.args.text.now [] refl (λ i j d lt within. absurd (omega arith)) (omega arith) (λ e. refl) (λ l after s e. (MatchOption-at_none _ _ none c.first_line.ensures) l after (last_well [] l s) e)); once = once }
 
-none_case : {A : Type 0} (o : Option A) (P : Type 0) (Q : A → Type 0) → is_some o ≡ false → MatchOption o P Q → P
-none_case None P Q h k = k
-none_case (Some x) P Q h k = absurd (false≢true (sym h))
-
-filled : (xs : List ℕ) → false ≡ eqb (length xs) 0 → xs ≡ [] → ⊥
-filled xs h e = eqb-false (length xs) 0 (sym h) (ap length e)
-
-pub returns-in_default : goal.returns-in_default
-returns-in_default c = record {
-  outcome = refused c.args.text.now c.args.text.now [] 0 (omega arith) refl (λ i j d lt within. absurd (omega arith))
-      (λ size. inl (record { few = omega arith; more = λ e. refl; bad = λ l after s e. c.in_default.ensures l after (last_well [] l s) e }));
-  once = once;
-}
-
-pub loop-rest-init : goal.loop-rest-init
-loop-rest-init c =
-    let t = c.args.text.now in
-    let first = c.in-Some.ensures.0 in
-    let l = text_of (line_of c.in-Some.first.symbol) in
-    (omega arith, omega arith, refl, first ∙ ap (λ r. l ++ r) (sym (take_rest t c.in-Some.first.len)) ∙ ap (λ f. f ++ take (length t - c.in-Some.first.len) (drop c.in-Some.first.len t)) (sym (append-nil l)), λ i j d lt within. absurd (omega arith))
-
-pub returns-then-count-eq64 : goal.returns-then-count-eq64
-returns-then-count-eq64 c =
-    let inv = c.loop-rest.invariant in
+pub returns-in_err-symbol : goal.returns-in_err-symbol
+returns-in_err-symbol c =
+    let p = err_from_is_err_and c.from_residual-in_err-symbol.result c.from_residual-in_err-symbol.ensures.1 in
+    let ss = items c.loop-rest.symbols in
+    let none : c.first_line-in-loop-rest.result ≡ None = grind arith in
+    let is : c.in_err-symbol.field-0.0 ≡ SignatureLine (length ss + 1) = grind arith in
+    let some : 0 < length c.loop-rest.rest.now = search rules in
     record {
-      outcome = refused c.args.text.now c.loop-rest.rest.now c.loop-rest.symbols c.loop-rest.count (omega arith) inv.3 inv.4
-          (λ size. inr (record { all = omega (arith, c.if-count-eq64.true); more = filled c.loop-rest.rest.now c.loop-rest-test.ensures }));
+      outcome = rw (p.1, p.2, is) (bad_line c.args.text.now c.loop-rest.rest.now ss c.loop-rest.invariant.whole c.loop-rest.invariant.apart (omega (arith, c.len.ensures.is, c.len.ensures.within)) (λ e. absurd (omega (arith, some, ap length e)))
+          (λ l after s e. MatchOption-at_none _ _ none c.first_line-in-loop-rest.ensures l after (last_well (map line_of ss) l s) e));
       once = once;
     }
 
-pub returns-in_default-first_line : goal.returns-in_default-first_line
-returns-in_default-first_line c =
-    let inv = c.loop-rest.invariant in
-    let ls = map line_of (take c.loop-rest.count c.loop-rest.symbols) in
+pub returns-then-is_taken : goal.returns-then-is_taken
+returns-then-is_taken c =
+    let ss = items c.loop-rest.symbols in
+    let y = c.in_ok-symbol.symbol in
+    let at = taken_at ss (spelled y.name) (search rules) in
+    let line : c.loop-rest.rest.now ≡ text_of (line_of y) ++ c.in_ok-symbol.after.now = search rules in
+    let some : 0 < length c.loop-rest.rest.now = search rules in
     record {
-      outcome = refused c.args.text.now c.loop-rest.rest.now c.loop-rest.symbols c.loop-rest.count (omega arith) inv.3 inv.4
-          (λ size. inl (record {
-            few = omega (arith, c.if-count-eq64.false);
-            more = λ e. absurd (filled c.loop-rest.rest.now c.loop-rest-test.ensures e);
-            bad = λ l after s e. c.in_default-first_line.ensures l after (last_well ls l s) e;
-          }));
+      outcome = rw c.len.ensures.is (bad_line c.args.text.now c.loop-rest.rest.now ss c.loop-rest.invariant.whole c.loop-rest.invariant.apart (omega (arith, c.len.ensures.is, c.len.ensures.within)) (λ e. absurd (omega (arith, some, ap length e)))
+          (bad_again ss y c.loop-rest.rest.now c.in_ok-symbol.after.now at.0 line at.1 at.2));
       once = once;
     }
 
-pub returns-then-is_some : goal.returns-then-is_some
-returns-then-is_some c =
-    let inv = c.loop-rest.invariant in
-    let count = c.loop-rest.count in
-    let ss = take count c.loop-rest.symbols in
-    let y = c.in-Some-first_line.next.symbol in
-    let at = some_case _ (Absent c.bytes.result.now (names ss)) (λ k. (k < length ss) × (get_or (names ss) k [] ≡ c.bytes.result.now)) (sym c.if-is_some.ensures) c.position.ensures in
-    let spelling : c.bytes.result.now ≡ spelled y.name = c.bytes.ensures ∙ ap spelled c.name.ensures in
+pub returns-in_err-or : goal.returns-in_err-or
+returns-in_err-or c =
+    let p = err_from_is_err_and c.from_residual-in_err-or.result c.from_residual-in_err-or.ensures.1 in
+    let ss = items c.loop-rest.symbols in
+    let full : 64 ≤ length ss = grind arith in
+    let is : c.in_err-or.field-0.0 ≡ SignatureLine (length ss + 1) = grind arith in
+    let some : 0 < length c.loop-rest.rest.now = search rules in
     record {
-      outcome = refused c.args.text.now c.loop-rest.rest.now c.loop-rest.symbols count (omega arith) inv.3 inv.4
-          (λ size. inl (record {
-            few = omega (arith, c.if-count-eq64.false);
-            more = λ e. absurd (filled c.loop-rest.rest.now c.loop-rest-test.ensures e);
-            bad = bad_again ss y c.loop-rest.rest.now _ at.0 c.in-Some-first_line.ensures.0 at.1.0 (at.1.1 ∙ spelling);
-          }));
+      outcome = rw (p.1, p.2, is) (refused c.args.text.now c.loop-rest.rest.now ss c.loop-rest.invariant.whole c.loop-rest.invariant.apart
+          (inr (record { all = omega (arith, length-map ss line_of, full, c.len.ensures.is, c.len.ensures.within); more = λ e. omega (arith, some, ap length e) })));
       once = once;
     }
 
 pub loop-rest-preserved : goal.loop-rest-preserved
 loop-rest-preserved c =
-    let inv = c.loop-rest.invariant in
-    let count = c.loop-rest.count in
-    let symbols = c.loop-rest.symbols in
-    let ss = take count symbols in
-    let rest = c.loop-rest.rest.now in
-    let y = c.in-Some-first_line.next.symbol in
-    let len = c.in-Some-first_line.next.len in
-    let few : count + 1 ≤ 64 = omega (arith, c.if-count-eq64.false) in
-    let fits : count < length symbols = omega (arith, inv.2) in
-    let spelling : c.bytes.result.now ≡ spelled y.name = c.bytes.ensures ∙ ap spelled c.name.ensures in
-    let absent = none_case _ (Absent c.bytes.result.now (names ss)) (λ k. (k < length ss) × (get_or (names ss) k [] ≡ c.bytes.result.now)) (sym c.if-is_some.ensures) c.position.ensures in
-    let line = c.in-Some-first_line.ensures.0 ∙ ap (λ r. text_of (line_of y) ++ r) (sym (take_rest rest len)) in
-    (omega arith, few, length-set symbols count y ∙ inv.2, text_more symbols count y fits c.args.text.now rest _ inv.3 line, apart_more symbols count y fits inv.4 (rw spelling at absent))
+    let ss = items c.loop-rest.symbols in
+    let y = c.in_ok-symbol.symbol in
+    let absent = free ss (spelled y.name) (search rules) in
+    let more : items c.push.new.self ≡ ss ++ y ∷ [] = grind arith in
+    let line : c.loop-rest.rest.now ≡ text_of (line_of y) ++ c.in_ok-symbol.after.now = search rules in
+    rw more (record {
+      whole = text_more ss y c.args.text.now c.loop-rest.rest.now _ c.loop-rest.invariant.whole line;
+      apart = apart_more ss y c.loop-rest.invariant.apart absent;
+    })
 
 pub returns : goal.returns
 returns c =
-    let inv = c.loop-rest.invariant in
-    let ss = take c.loop-rest.count c.loop-rest.symbols in
-    let size : length (map line_of ss) ≡ c.loop-rest.count = length-map ss line_of ∙ length-take-le c.loop-rest.count c.loop-rest.symbols (omega (arith, inv.2)) in
-    let end : c.loop-rest.rest.now ≡ [] = nil_from_length _ (eqb-true _ _ (sym c.loop-rest-test.ensures)) in
+    let ss = items c.loop-rest.symbols in
+    let end : c.loop-rest.rest.now ≡ [] = nil_from_length _ (search rules) in
+    let some : 1 ≤ length ss = search rules in
     record {
       outcome = record {
-        whole = inv.3 ∙ ap (λ r. flat_map text_of (map line_of ss) ++ r) end ∙ append-nil (flat_map text_of (map line_of ss));
-        sound = sound_lines ss inv.4;
-        some = omega (arith, inv.0);
-        few = omega (arith, inv.1);
+        whole = c.loop-rest.invariant.whole ∙ ap (λ r. flat_map text_of (map line_of ss) ++ r) end ∙ append-nil (flat_map text_of (map line_of ss));
+        sound = sound_lines ss c.loop-rest.invariant.apart;
+        some = omega (arith, length-map ss line_of, some);
+        few = omega (arith, length-map ss line_of, length-take-le c.loop-rest.symbols.len c.loop-rest.symbols.cells (search rules), c.loop-rest.symbols.within);
       };
       once = once;
     }
