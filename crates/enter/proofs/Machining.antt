@@ -1,19 +1,19 @@
 -- What one turn of the machine comes to.
-use Rattle.std.proofs.Common.{◌≡◌, ℕ, zero, suc, ◌+◌, ◌-◌, ◌<◌, ◌≤◌, true, ltb, List, [], ◌∷◌, length, get_or, take, drop, set, is_some, Some, None, Option, sym, refl, ap, ◌∙◌, subst, ap₂, inl, inr, arith}
-use Rattle.std.proofs.lemmas.List.{drop_all, drop_more, length-set}
+use Rattle.std.proofs.Common.{◌≡◌, ℕ, zero, suc, ◌+◌, ◌-◌, ◌<◌, ◌≤◌, true, ltb, List, [], ◌∷◌, ◌++◌, length, get_or, reverse, drop, set, is_some, Some, None, Option, Ok, Err, Result, MatchResult, sym, refl, ap, ◌∙◌, subst, inl, inr, arith}
+use Rattle.std.proofs.lemmas.List.{drop_all, drop_more, reverse-append}
+use Rattle.std.specs.Result.{result_ok}
 use Rattle.std.proofs.lemmas.Bool.{cases_lt, and_parts, ltb-true, false≢true}
-use Rattle.lent_list.proofs.Stacks.{peel, pushed, replaced}
 use Rattle.terms.specs.Term.{Term, Terms, var, app, nil, ◌▹◌, width}
-use Rattle.terms.specs.Preorder.{row, split, headed, in_front, Reads, small, all_small, alone, Whole, Small}
-use Rattle.terms.proofs.Rows.{small_at}
+use Rattle.terms.specs.Preorder.{row, split, headed, in_front, Reads, small, alone, Whole}
 use Rattle.terms.specs.declared.pattern.Node.{Node}
 use Rattle.terms.specs.declared.pattern.Node.TheVariants.{Var, App}
 use Rattle.bank.specs.declared.cell.Cell as cells
 use Rattle.bank.specs.declared.cell.Cell.TheVariants as cell
 use Rattle.enter.specs.Enter.{Entry, note, chain, fill, blank, bound, enter, enters}
-use Rattle.enter.specs.Machine.{given, entered, after, onward, forest, opens, later, wanted, Waiting, Sound, Ready, Holding, left, held, Turned, Finished, Delivered, weight, Falls, idle}
+use Rattle.row.specs.Items.{items}
+use Rattle.row.specs.declared.Row.{Row}
+use Rattle.enter.specs.Machine.{fresh, given, entered, after, onward, forest, opens, later, wanted, Waiting}
 use Rattle.enter.specs.declared.machine.Open.{Open}
-use Rattle.enter.specs.declared.machine.Turn.{Turn}
 
 abbrev pub both : List cells.Cell → List ℕ → List cells.Cell × List ℕ
 both b is = (b, is)
@@ -91,11 +91,8 @@ app_after f a (Some all) ts e = elim (cases_lt (width all) a) [
       record { all = all; front = s.front; rest = s.rest; is = refl; cuts = s.is; wide = s.wide; tall = s.left; joins = s.joins; heads = cc }
 ]
 
-pub small_arity : (ns : List Node) (i f a : ℕ) → all_small ns ≡ true → i < length ns → get_or ns i (Var 0) ≡ App f a → a ≤ 4
-small_arity ns i f a h l e =
-    let s : small (App f a) ≡ true = subst (λ n. small n ≡ true) e (small_at ns i h l) in
-    let k = ltb-true a 5 (and_parts (ltb f 64) (ltb a 5) s).1 in
-    omega arith
+pub small_arity : (n : Node) (f a : ℕ) → n ≡ App f a → small n ≡ true → a ≤ 4
+small_arity n f a e h = omega (arith, ltb-true a 5 (and_parts (ltb f 64) (ltb a 5) (sym (ap small e) ∙ h)).1)
 
 module _ (m : ℕ) (bindings : List (Option ℕ)) where
   abbrev Next : Type 0
@@ -134,7 +131,7 @@ module _ (m : ℕ) (bindings : List (Option ℕ)) where
 
   -- a symbol that has no argument yet
   pub starts : (f a : ℕ) (front rest all : Terms) (b : List cells.Cell) (next : Next) → split a all ≡ Some (front, rest) → width front ≡ a
-      → entered m bindings (a - 0) record { symbol = f; arity = a; args = blank; have = 0 } all b next ≡ chain (enter m bindings (app f front) b) (λ q. next q.1 rest q.0)
+      → entered m bindings (a - 0) (fresh f a) all b next ≡ chain (enter m bindings (app f front) b) (λ q. next q.1 rest q.0)
   starts f a front rest all b next e w =
       let z : a - 0 ≡ a = omega arith in
       rw (z, e, w) (elim (enters m bindings front b) as (λ z.
@@ -144,164 +141,107 @@ module _ (m : ℕ) (bindings : List (Option ℕ)) where
 pub forest_is : (nodes : List Node) (i : ℕ) (ts : Terms) → row (drop i nodes) ≡ Some ts → forest nodes i ≡ ts
 forest_is nodes i ts e = rw e
 
-module _ {nodes : List Node} {st : List Open} {d i : ℕ} where
-  pub close_holding : Ready nodes st d i → 0 < d → (get_or st (d - 1) idle).have ≡ (get_or st (d - 1) idle).arity → Holding nodes st (d - 1) i
-  close_holding r pos full =
-      let e = peel st d idle pos r.within in
-      let s : Sound (get_or st (d - 1) idle ∷ opens st (d - 1)) = subst Sound e r.sound in
-      let w = ap wanted e in
-      record {
-        sound = s.2;
-        reads = record { terms = r.reads.terms; is = r.reads.is; tall = omega (arith, r.reads.tall, w) };
-        small = r.small;
-        few = r.few;
-        deep = omega (arith, r.deep);
-        room = r.room;
-        within = omega (arith, r.within);
-      }
+-- what `ok` and `?` say of a push
+pub was_err : {E : Type 0} (P Q : Type 0) (r : Result (Unit {0}) E) (o : Option (Unit {0})) → o ≡ result_ok r → o ≡ None → MatchResult r (λ _. P) (λ _. Q) → Q
+was_err P Q (Ok u) o e n h = absurd (none_some (sym n ∙ e))
+was_err P Q (Err x) o e n h = h
 
-  pub close_left : (bindings : List (Option ℕ)) (cs : List cells.Cell) (n : ℕ) (c : cells.Cell) → Ready nodes st d i → Finished st d (Some c)
-      → left bindings nodes st d i cs n ≡ chain (note (length cs) c (take n cs)) (λ q. after (length cs) bindings (opens st (d - 1)) q.1 (forest nodes i) q.0)
-  close_left bindings cs n c r f =
-      let m = length cs in
-      let o = get_or st (d - 1) idle in
-      let next = after m bindings (opens st (d - 1)) in
-      ap (λ os. onward m bindings os (forest nodes i) (take n cs)) (peel st d idle f.0 r.within)
-      ∙ closes m bindings o (forest nodes i) (take n cs) next f.1
-      ∙ ap (λ k. chain (note m k (take n cs)) (λ q. next q.1 (forest nodes i) q.0)) (sym f.2)
+pub was_ok : {E : Type 0} (P Q : Type 0) (r : Result (Unit {0}) E) (o : Option (Unit {0})) (u : Unit {0}) → o ≡ result_ok r → o ≡ Some u → MatchResult r (λ _. P) (λ _. Q) → P
+was_ok P Q (Ok v) o u e s h = h
+was_ok P Q (Err x) o u e s h = absurd (none_some (sym e ∙ s))
 
-  -- a state before a node wants one term more than it wants after it
-  pub waits : Ready nodes st d i → Finished st d None → Waiting (opens st d) × (wanted (opens st d) ≡ suc (later (opens st d)))
-  waits r f = elim (cases_lt 0 d) [
-    | inl pos ↦
-        let e = peel st d idle pos r.within in
-        let o = get_or st (d - 1) idle in
-        let s : Sound (o ∷ opens st (d - 1)) = subst Sound e r.sound in
-        let less : o.have < o.arity = elim (cases_lt o.have o.arity) [ inl l ↦ l | inr g ↦ absurd (f pos (let q : o.have ≡ o.arity = omega (arith, s.0) in q)) ] in
-        let w : Waiting (o ∷ opens st (d - 1)) = (less, s.1, s.2) in
-        let more : wanted (o ∷ opens st (d - 1)) ≡ suc (later (o ∷ opens st (d - 1))) = omega (arith, less) in
-        (subst Waiting (sym e) w, subst (λ os. wanted os ≡ suc (later os)) (sym e) more)
-    | inr z ↦
-        let e : d ≡ 0 = omega arith in
-        (subst (λ k. Waiting (opens st k)) (sym e) tt, subst (λ k. wanted (opens st k) ≡ suc (later (opens st k))) (sym e) refl)
-  ]
+pub waiting_wants : (os : List Open) → Waiting os → wanted os ≡ suc (later os)
+waiting_wants [] w = refl
+waiting_wants (o ∷ os) w = omega (arith, w.0)
 
-  module _ (r : Ready nodes st d i) (f : Finished st d None) where
-    next_reads : Reads (row (drop i nodes)) (suc (later (opens st d)))
-    next_reads = record { terms = r.reads.terms; is = r.reads.is; tall = r.reads.tall ∙ (waits r f).1 }
+-- a symbol is taken off the row, or put on it
+pub taken : (old new : Row Open 32) (o : Open) → items old ≡ items new ++ o ∷ [] → opens old ≡ o ∷ opens new
+taken old new o e = ap reverse e ∙ reverse-append (items new) (o ∷ [])
 
-    pub has_node : i < length nodes
-    has_node = in_row nodes i (later (opens st d)) next_reads
+pub put_on : (old new : Row Open 32) (o : Open) → items new ≡ items old ++ o ∷ [] → opens new ≡ o ∷ opens old
+put_on old new o e = ap reverse e ∙ reverse-append (items old) (o ∷ [])
 
-    pub push_room : d < length st
-    push_room = omega (arith, has_node, r.deep, r.room)
+pub none_waits : (r : Row Open 32) → items r ≡ [] → opens r ≡ []
+none_waits r e = ap reverse e
 
-    module _ (x : ℕ) (e : get_or nodes i (Var 0) ≡ Var x) where
-      var_row : (all : Terms) × (row (drop (i + 1) nodes) ≡ Some all) × (r.reads.terms ≡ var x ▹ all)
-      var_row = var_after x (row (drop (i + 1) nodes)) r.reads.terms (sym (at_node nodes i (Var x) has_node e) ∙ r.reads.is)
+-- a node in front of the terms us, where the waiting symbols os want the terms ts
+module _ (m : ℕ) (bindings : List (Option ℕ)) (os : List Open) (waits : Waiting os) (ts us : Terms) (wide : width ts ≡ wanted os) (b : List cells.Cell) where
+  module _ (x : ℕ) (e : in_front (Var x) (Some us) ≡ Some ts) where
+    var_ts : ts ≡ var x ▹ us
+    var_ts =
+        let a = var_after x (Some us) ts e in
+        let q : us ≡ a.0 = cc in
+        a.2 ∙ ap (λ vs. var x ▹ vs) (sym q)
 
-      var_tall : width var_row.0 ≡ later (opens st d)
-      var_tall = omega (arith, r.reads.tall, (waits r f).1, ap width var_row.2)
+    pub var_wide : width us ≡ later os
+    var_wide = omega (arith, ap width var_ts, wide, waiting_wants os waits)
 
-      pub var_holding : Holding nodes st d (i + 1)
-      var_holding = record {
-        sound = (waits r f).0;
-        reads = record { terms = var_row.0; is = var_row.1; tall = var_tall };
-        small = r.small;
-        few = r.few;
-        deep = omega (arith, r.deep);
-        room = r.room;
-        within = r.within;
-      }
+    pub var_left : onward m bindings os ts b ≡ chain (bound m x b (get_or bindings x None)) (λ q. after m bindings os q.1 us q.0)
+    var_left = ap (λ vs. onward m bindings os vs b) var_ts ∙ delivers m bindings os (var x) us b waits var_wide
 
-      pub var_left : (bindings : List (Option ℕ)) (cs : List cells.Cell) (n : ℕ)
-          → left bindings nodes st d i cs n ≡ chain (bound (length cs) x (take n cs) (get_or bindings x None)) (λ q. after (length cs) bindings (opens st d) q.1 (forest nodes (i + 1)) q.0)
-      var_left bindings cs n =
-          let m = length cs in
-          let os = opens st d in
-          ap (λ ts. onward m bindings os ts (take n cs)) (forest_is nodes i r.reads.terms r.reads.is ∙ var_row.2)
-          ∙ delivers m bindings os (var x) var_row.0 (take n cs) (waits r f).0 var_tall
-          ∙ ap (λ ts. chain (bound m x (take n cs) (get_or bindings x None)) (λ q. after m bindings os q.1 ts q.0)) (sym (forest_is nodes (i + 1) var_row.0 var_row.1))
+    -- its cell goes to the symbol that waits
+    pub var_next : (m' : ℕ) (o : Open) (os' : List Open) (b' : List cells.Cell) (v : ℕ) → os ≡ o ∷ os' → m' ≡ m → bound m x b (get_or bindings x None) ≡ Some (b', v) → onward m bindings os ts b ≡ onward m' bindings (given o v ∷ os') us b'
+    var_next m' o os' b' v is size q =
+        var_left ∙ chain_some _ _ (b', v) q ∙ ap (λ fs. after m bindings fs v us b') is ∙ ap (λ k. onward k bindings (given o v ∷ os') us b') (sym size)
 
-    module _ (g a : ℕ) (e : get_or nodes i (Var 0) ≡ App g a) where
-      abbrev fresh : Open
-      fresh = record { symbol = g; arity = a; args = blank; have = 0 }
+  module _ (f a : ℕ) (e : in_front (App f a) (Some us) ≡ Some ts) where
+    app_row : After f a (Some us) ts
+    app_row = app_after f a (Some us) ts e
 
-      app_row : After g a (row (drop (i + 1) nodes)) r.reads.terms
-      app_row = app_after g a (row (drop (i + 1) nodes)) r.reads.terms (sym (at_node nodes i (App g a) has_node e) ∙ r.reads.is)
+    app_all : app_row.all ≡ us
+    app_all = let q = app_row.is in cc
 
-      opened : opens (set st d fresh) (d + 1) ≡ fresh ∷ opens st d
-      opened = pushed st d fresh push_room
+    app_rest : width app_row.rest ≡ later os
+    app_rest = omega (arith, ap width app_row.heads, wide, waiting_wants os waits)
 
-      app_tall : width app_row.rest ≡ later (opens st d)
-      app_tall = omega (arith, r.reads.tall, (waits r f).1, ap width app_row.heads)
+    pub app_wide : width us ≡ wanted (fresh f a ∷ os)
+    app_wide = omega (arith, app_row.tall, ap width app_all, app_rest)
 
-      pub app_ready : Ready nodes (set st d fresh) (d + 1) (i + 1)
-      app_ready =
-          let size = length-set st d fresh in
-          let s : Sound (fresh ∷ opens st d) = (omega arith, small_arity nodes i g a r.small has_node e, (waits r f).0) in
-          let tall : width app_row.all ≡ wanted (fresh ∷ opens st d) = omega (arith, app_tall, app_row.tall) in
-          record {
-            sound = subst Sound (sym opened) s;
-            reads = record { terms = app_row.all; is = app_row.is; tall = tall ∙ ap wanted (sym opened) };
-            small = r.small;
-            few = r.few;
-            deep = omega (arith, r.deep);
-            room = omega (arith, r.room, size);
-            within = omega (arith, push_room, size);
-          }
+    pub app_left : onward m bindings os ts b ≡ onward m bindings (fresh f a ∷ os) us b
+    app_left =
+        ap (λ vs. onward m bindings os vs b) app_row.heads
+        ∙ delivers m bindings os (app f app_row.front) app_row.rest b waits app_rest
+        ∙ sym (starts m bindings f a app_row.front app_row.rest app_row.all b (after m bindings os) app_row.cuts app_row.wide)
+        ∙ ap (λ vs. onward m bindings (fresh f a ∷ os) vs b) app_all
 
-      pub app_left : (bindings : List (Option ℕ)) (cs : List cells.Cell) (n : ℕ)
-          → left bindings nodes st d i cs n ≡ left bindings nodes (set st d fresh) (d + 1) (i + 1) cs n
-      app_left bindings cs n =
-          let m = length cs in
-          let b = take n cs in
-          let os = opens st d in
-          ap (λ ts. onward m bindings os ts b) (forest_is nodes i r.reads.terms r.reads.is ∙ app_row.heads)
-          ∙ delivers m bindings os (app g app_row.front) app_row.rest b (waits r f).0 app_tall
-          ∙ sym (starts m bindings g a app_row.front app_row.rest app_row.all b (after m bindings os) app_row.cuts app_row.wide)
-          ∙ sym (ap₂ (λ fs ts. onward m bindings fs ts b) opened (forest_is nodes (i + 1) app_row.all app_row.is))
+-- the node at place i of a row, and the terms behind it
+pub record Front (nodes : List Node) (i : ℕ) (ts : Terms) : Type 0 where
+  pub behind : Terms
+  pub is : row (drop (i + 1) nodes) ≡ Some behind
+  pub front : in_front (get_or nodes i (Var 0)) (Some behind) ≡ Some ts
 
-  pub deliver_room : Holding nodes st d i → 0 < d → (get_or st (d - 1) idle).have < 4
-  deliver_room h pos =
-      let w : Waiting (get_or st (d - 1) idle ∷ opens st (d - 1)) = subst Waiting (peel st d idle pos h.within) h.sound in
-      omega (arith, w.0, w.1)
+front_by : (nodes : List Node) (i : ℕ) (ts : Terms) (n : Node) → get_or nodes i (Var 0) ≡ n → in_front n (row (drop (i + 1) nodes)) ≡ Some ts → Front nodes i ts
+front_by nodes i ts (Var x) is e =
+    let a = var_after x (row (drop (i + 1) nodes)) ts e in
+    record { behind = a.0; is = a.1; front = rw is (rw a.1 at e) }
+front_by nodes i ts (App f a) is e =
+    let r = app_after f a (row (drop (i + 1) nodes)) ts e in
+    record { behind = r.all; is = r.is; front = rw is (rw r.is at e) }
 
-  pub delivered : (bindings : List (Option ℕ)) (cs : List cells.Cell) (n v : ℕ) (st' : List Open) (t : Turn) → Holding nodes st d i → Delivered st d i v st' t
-      → Turned (held bindings nodes st d i v cs n) bindings nodes st' cs n t
-  delivered bindings cs n v st' t h (inl p) =
-      subst (Turned (held bindings nodes st d i v cs n) bindings nodes st' cs n) (sym p.2)
-      (ap (λ k. after (length cs) bindings (opens st k) v (forest nodes i) (take n cs)) p.0)
-  delivered bindings cs n v st' t h (inr p) =
-      let o = get_or st (d - 1) idle in
-      let e = peel st d idle p.0 h.within in
-      let now : opens st' d ≡ given o v ∷ opens st (d - 1) = ap (λ s. opens s d) p.1 ∙ replaced st d (given o v) p.0 h.within in
-      let w : Waiting (o ∷ opens st (d - 1)) = subst Waiting e h.sound in
-      let size : length st' ≡ length st = ap length p.1 ∙ length-set st (d - 1) (given o v) in
-      let s : Sound (given o v ∷ opens st (d - 1)) = (omega (arith, w.0), w.1, w.2) in
-      let ready : Ready nodes st' d i = record {
-        sound = subst Sound (sym now) s;
-        reads = record { terms = h.reads.terms; is = h.reads.is; tall = h.reads.tall ∙ ap later e ∙ ap wanted (sym now) };
-        small = h.small;
-        few = h.few;
-        deep = h.deep;
-        room = omega (arith, h.room, size);
-        within = omega (arith, h.within, size);
-      } in
-      let same : held bindings nodes st d i v cs n ≡ left bindings nodes st' d i cs n =
-      ap (λ os. after (length cs) bindings os v (forest nodes i) (take n cs)) e ∙ ap (λ os. onward (length cs) bindings os (forest nodes i) (take n cs)) (sym now) in
-      subst (Turned (held bindings nodes st d i v cs n) bindings nodes st' cs n) (sym p.2) (ready, same)
+pub front_of : (nodes : List Node) (i : ℕ) (ts : Terms) → i < length nodes → row (drop i nodes) ≡ Some ts → Front nodes i ts
+front_of nodes i ts l e = front_by nodes i ts (get_or nodes i (Var 0)) refl (sym (at_node nodes i (get_or nodes i (Var 0)) l refl) ∙ e)
 
--- what a cell's entry comes to, once it has come to the cell v
-pub held_left : (e o : Entry) (bindings : List (Option ℕ)) (nodes : List Node) (st : List Open) (d i v : ℕ) (cs cs' : List cells.Cell) (n' : ℕ) → length cs' ≡ length cs
-    → e ≡ chain o (λ q. after (length cs) bindings (opens st d) q.1 (forest nodes i) q.0) → o ≡ Some (take n' cs', v)
-    → e ≡ held bindings nodes st d i v cs' n'
-held_left e o bindings nodes st d i v cs cs' n' size p q =
-    p ∙ chain_some o _ (take n' cs', v) q ∙ ap (λ m. after m bindings (opens st d) v (forest nodes i) (take n' cs')) (sym size)
+-- a node is left as long as a symbol wants one
+pub node_left : (nodes : List Node) (i : ℕ) (os : List Open) → Waiting os → Reads (row (drop i nodes)) (wanted os) → i < length nodes
+node_left nodes i os waits r = in_row nodes i (later os) (subst (Reads (row (drop i nodes))) (waiting_wants os waits) r)
 
-pub falls : (w : ℕ) (nodes : List Node) (st st' : List Open) (d i v : ℕ) (t : Turn) → Delivered st d i v st' t → weight nodes d i < w → Falls w nodes t
-falls w nodes st st' d i v t (inl p) h = subst (Falls w nodes) (sym p.2) tt
-falls w nodes st st' d i v t (inr p) h = subst (Falls w nodes) (sym p.2) h
+-- a symbol with all its arguments comes to what its cell comes to
+module _ (m : ℕ) (bindings : List (Option ℕ)) (o : Open) (os : List Open) (ts : Terms) (b : List cells.Cell) (full : o.have ≡ o.arity) where
+  pub settled : (b' : List cells.Cell) (v : ℕ) → note m (cell.App o.symbol o.arity o.args) b ≡ Some (b', v) → onward m bindings (o ∷ os) ts b ≡ after m bindings os v ts b'
+  settled b' v e = closes m bindings o ts b (after m bindings os) full ∙ chain_some _ _ (b', v) e
+
+  pub unsettled : note m (cell.App o.symbol o.arity o.args) b ≡ None → onward m bindings (o ∷ os) ts b ≡ None
+  unsettled e = closes m bindings o ts b (after m bindings os) full ∙ chain_none _ _ e
+
+-- its cell goes to the next symbol that waits, or is the whole term's
+pub next_settled : (m m' : ℕ) (bindings : List (Option ℕ)) (o next : Open) (os os' : List Open) (ts : Terms) (b b' : List cells.Cell) (v : ℕ) → o.have ≡ o.arity → os ≡ next ∷ os' → m' ≡ m → note m (cell.App o.symbol o.arity o.args) b ≡ Some (b', v)
+    → onward m bindings (o ∷ os) ts b ≡ onward m' bindings (given next v ∷ os') ts b'
+next_settled m m' bindings o next os os' ts b b' v full is size e =
+    settled m bindings o os ts b full b' v e ∙ ap (λ us. after m bindings us v ts b') is ∙ ap (λ k. onward k bindings (given next v ∷ os') ts b') (sym size)
+
+pub last_settled : (m : ℕ) (bindings : List (Option ℕ)) (o : Open) (os : List Open) (ts : Terms) (b b' : List cells.Cell) (v : ℕ) → o.have ≡ o.arity → os ≡ [] → note m (cell.App o.symbol o.arity o.args) b ≡ Some (b', v)
+    → onward m bindings (o ∷ os) ts b ≡ Some (b', v)
+last_settled m bindings o os ts b b' v full is e = settled m bindings o os ts b full b' v e ∙ ap (λ us. after m bindings us v ts b') is
 
 one_reads : (o : Option Terms) → is_some (alone o) ≡ true → Reads o 1
 one_reads None h = absurd (false≢true h)
@@ -309,13 +249,5 @@ one_reads (Some nil) h = absurd (false≢true h)
 one_reads (Some (t ▹ nil)) h = record { terms = t ▹ nil; is = refl; tall = refl }
 one_reads (Some (t ▹ (u ▹ us))) h = absurd (false≢true h)
 
-pub ready : (nodes : List Node) (st : List Open) → Whole nodes → Small nodes → length nodes ≤ 32 → length nodes ≤ length st → Ready nodes st 0 0
-ready nodes st one small few deep = record {
-  sound = tt;
-  reads = one_reads (row nodes) one;
-  small = small;
-  few = few;
-  deep = omega arith;
-  room = deep;
-  within = omega arith;
-}
+pub whole_reads : (nodes : List Node) → Whole nodes → Reads (row nodes) 1
+whole_reads nodes one = one_reads (row nodes) one

@@ -1,16 +1,22 @@
--- Entering without recursion: a stack of symbols that still wait for arguments, the top first.
-use Rattle.std.specs.Prelude.{◌≡◌, ℕ, ◌+◌, ◌-◌, ◌*◌, ◌<◌, ◌≤◌, true, false, ◌⊎◌, List, [], ◌∷◌, reverse, length, get_or, take, drop, Some, None, Option, ◌≢◌, slice_index_or, slice_set}
+-- Entering without recursion: symbols that still wait for arguments, the last one first.
+use Rattle.std.specs.Prelude.{◌≡◌, ℕ, ◌+◌, ◌-◌, ◌<◌, ◌≤◌, true, false, ◌⊎◌, List, [], ◌∷◌, reverse, length, take, drop, Some, None, Option, slice_set}
 use Rattle.std.specs.Option.{unwrap_or}
+use Rattle.std.specs.declared.ops.ControlFlow.{ControlFlow}
+use Rattle.std.specs.declared.ops.ControlFlow.TheVariants.{Break, Continue}
 use Rattle.lent_list.specs.Words.{First, Appended}
-use Rattle.terms.specs.Term.{Terms, nil, ◌▹◌}
-use Rattle.terms.specs.Preorder.{row, split, Reads, all_small}
+use Rattle.terms.specs.Term.{Terms, nil, ◌▹◌, width}
+use Rattle.terms.specs.Preorder.{row, split}
 use Rattle.terms.specs.declared.pattern.Node.{Node}
 use Rattle.bank.specs.declared.cell.Cell.{Cell}
 use Rattle.bank.specs.declared.cell.Cell.TheVariants.{App}
-use Rattle.enter.specs.Enter.{Entry, note, chain, fill, enter, enters}
+use Rattle.row.specs.Items.{items}
+use Rattle.row.specs.declared.Row.{Row}
+use Rattle.enter.specs.Enter.{Entry, note, chain, fill, blank, enter, enters}
 use Rattle.enter.specs.declared.machine.Open.{Open}
-use Rattle.enter.specs.declared.machine.Turn.{Turn}
-use Rattle.enter.specs.declared.machine.Turn.TheVariants.{On, Done, Full}
+
+-- a symbol that has no argument yet
+abbrev pub fresh : ℕ → ℕ → Open
+fresh f a = record { symbol = f; arity = a; args = blank; have = 0 }
 
 -- a waiting symbol with one more argument
 abbrev pub given : Open → ℕ → Open
@@ -39,8 +45,9 @@ onward m bindings (o ∷ os) ts b = entered m bindings (o.arity - o.have) o ts b
 abbrev pub forest : List Node → ℕ → Terms
 forest nodes i = unwrap_or (row (drop i nodes)) nil
 
-abbrev pub opens : List Open → ℕ → List Open
-opens stack depth = reverse (take depth stack)
+-- the waiting symbols, the last one first
+abbrev pub opens : Row Open 32 → List Open
+opens r = reverse (items r)
 
 -- how many terms are wanted once the symbols have one more argument
 abbrev pub later : List Open → ℕ
@@ -60,66 +67,11 @@ abbrev pub Sound : List Open → Type 0
 Sound [] = Unit {0}
 Sound (o ∷ os) = (o.have ≤ o.arity) × (o.arity ≤ 4) × Waiting os
 
--- the machine stands before node i with this stack, and the nodes left are the terms that it wants
-pub record Ready (nodes : List Node) (stack : List Open) (depth i : ℕ) : Type 0 where
-  pub sound : Sound (opens stack depth)
-  pub reads : Reads (row (drop i nodes)) (wanted (opens stack depth))
-  pub small : all_small nodes ≡ true
-  pub few : length nodes ≤ 32
-  pub deep : depth ≤ i
-  pub room : length nodes ≤ length stack
-  pub within : depth ≤ length stack
-
--- the same with a finished cell at hand
-pub record Holding (nodes : List Node) (stack : List Open) (depth i : ℕ) : Type 0 where
-  pub sound : Waiting (opens stack depth)
-  pub reads : Reads (row (drop i nodes)) (later (opens stack depth))
-  pub small : all_small nodes ≡ true
-  pub few : length nodes ≤ 32
-  pub deep : depth ≤ i
-  pub room : length nodes ≤ length stack
-  pub within : depth ≤ length stack
-
--- what comes of the state before node i; the bank has the cells `cells`, and n of them are counted
-abbrev pub left : List (Option ℕ) → List Node → List Open → ℕ → ℕ → List Cell → ℕ → Entry
-left bindings nodes stack depth i cells n = onward (length cells) bindings (opens stack depth) (forest nodes i) (take n cells)
-
--- what comes of the finished cell v
-abbrev pub held : List (Option ℕ) → List Node → List Open → ℕ → ℕ → ℕ → List Cell → ℕ → Entry
-held bindings nodes stack depth i v cells n = after (length cells) bindings (opens stack depth) v (forest nodes i) (take n cells)
-
--- a turn goes on to a state of which the same comes, or has come to the end
-abbrev pub Turned : Entry → List (Option ℕ) → List Node → List Open → List Cell → ℕ → Turn → Type 0
-Turned e bindings nodes stack cells n (On depth i) = Ready nodes stack depth i × (e ≡ left bindings nodes stack depth i cells n)
-Turned e bindings nodes stack cells n (Done v) = e ≡ Some (take n cells, v)
-Turned e bindings nodes stack cells n Full = e ≡ None
-
--- what is left to do: each node is taken once, and may wait once
-abbrev pub weight : List Node → ℕ → ℕ → ℕ
-weight nodes depth i = 2 * (length nodes - i) + depth
-
-abbrev pub Falls : ℕ → List Node → Turn → Type 0
-Falls w nodes (On depth i) = weight nodes depth i < w
-Falls w nodes (Done v) = Unit {0}
-Falls w nodes Full = Unit {0}
-
--- an element that no stack shows
-abbrev pub idle : Open
-idle = record { symbol = 0; arity = 0; args = []; have = 0 }
-
--- the cell of the top symbol, if that has all its arguments
-abbrev pub Finished : List Open → ℕ → Option Cell → Type 0
-Finished stack depth None = 0 < depth → (get_or stack (depth - 1) idle).have ≢ (get_or stack (depth - 1) idle).arity
-Finished stack depth (Some c) =
-    (0 < depth)
-    × ((get_or stack (depth - 1) idle).have ≡ (get_or stack (depth - 1) idle).arity)
-    × (c ≡ App (get_or stack (depth - 1) idle).symbol (get_or stack (depth - 1) idle).arity (get_or stack (depth - 1) idle).args)
-
--- a finished cell is the top symbol's next argument, or the end
-abbrev pub Delivered : List Open → ℕ → ℕ → ℕ → List Open → Turn → Type 0
-Delivered stack depth i v stack' r =
-    ((depth ≡ 0) × (stack' ≡ stack) × (r ≡ Done v))
-    ⊎ ((0 < depth) × (stack' ≡ slice_set stack (depth - 1) (given (slice_index_or stack (depth - 1) idle) v)) × (r ≡ On depth i))
+-- a turn goes on to a state of which the same comes, or has come to the end; the bank has the cells `cells`, and n of them are counted
+abbrev pub Turned : Entry → List (Option ℕ) → List Open → Terms → List Cell → ℕ → Option (ControlFlow ℕ (Unit {0})) → Type 0
+Turned e bindings os ts cells n (Some (Continue _)) = Waiting os × (width ts ≡ wanted os) × (e ≡ onward (length cells) bindings os ts (take n cells))
+Turned e bindings os ts cells n (Some (Break v)) = e ≡ Some (take n cells, v)
+Turned e bindings os ts cells n None = e ≡ None
 
 -- what one entry gives
 abbrev pub Gives : Entry → Option ℕ → List Cell → ℕ → Type 0

@@ -9,7 +9,7 @@ ghost use Rattle.enter.specs.Outcome.{Entered, Laid};
 use bank::cell::Cell;
 use bank::rules::keeps_rules;
 use lent_list::Count;
-use machine::{Open, run};
+use machine::run;
 use note::put;
 use over::is_over;
 use refusal::Refusal;
@@ -54,13 +54,7 @@ pub fn enter_instance(
     if start > cells.len() {
         return Err(Refusal::BankRules);
     }
-    let mut stack = [Open {
-        symbol: 0,
-        arity: 0,
-        args: [0; 4],
-        have: 0,
-    }; 32];
-    match run(pattern.nodes(), bindings, cells, count, &mut stack) {
+    match run(pattern.nodes(), bindings, cells, count) {
         Some(cell) => Ok(cell),
         None => {
             count.len = start;

@@ -1,14 +1,18 @@
-// A term's nodes in preorder into the bank, with a stack in place of recursion.
-ghost use Rattle.std.specs.Prelude.{◌-◌, ◌<◌, ◌≤◌, length, take, None, slice_index_or};
-ghost use Rattle.terms.specs.Preorder.{Whole, Small};
-ghost use Rattle.enter.specs.Machine.{Ready, Turned, Finished, Delivered, Grew, Gives, Falls, weight, left, forest, whole, idle};
+// A term's nodes in preorder into the bank, with a row of waiting symbols in place of recursion.
+ghost use Rattle.std.specs.Prelude.{◌≡◌, ◌+◌, ◌<◌, ◌≤◌, List, Option, ℕ, true, ◌∷◌, length, take, Some};
+ghost use Rattle.terms.specs.Term.{Terms, width};
+ghost use Rattle.terms.specs.Preorder.{Whole, Small, in_front, small};
+ghost use Rattle.row.specs.Items.{items};
+ghost use Rattle.enter.specs.Machine.{Turned, Sound, Waiting, Grew, Gives, fresh, given, wanted, opens, onward, forest, whole};
 
 use crate::note::{put, variable};
 use bank::cell::Cell;
 use lent_list::Count;
+use row::Row;
+use std::ops::ControlFlow;
 use terms::pattern::Node;
 
-// A symbol that waits for arguments, with those that it has.
+// A symbol that waits for arguments, with those that it has. The slots are a cell's: all four, those not in use 0.
 #[derive(Clone, Copy)]
 pub struct Open {
     pub symbol: u8,
@@ -17,11 +21,31 @@ pub struct Open {
     pub have: u8,
 }
 
-#[derive(Clone, Copy)]
-pub enum Turn {
-    On { depth: usize, at: usize },
-    Done(u16),
-    Full,
+impl Open {
+    fn new(symbol: u8, arity: u8) -> Open
+        ensures { result ≡ fresh symbol arity }
+    {
+        Open {
+            symbol,
+            arity,
+            args: [0; 4],
+            have: 0,
+        }
+    }
+
+    // The same with one more argument.
+    fn with(self, cell: u16) -> Open
+        requires { self.have < 4 }
+        ensures { result ≡ given self cell }
+    {
+        let mut args = self.args;
+        args[usize::from(self.have)] = cell;
+        Open {
+            args,
+            have: self.have + 1,
+            ..self
+        }
+    }
 }
 
 // The nodes' term, each variable standing for what it is bound to.
@@ -30,143 +54,90 @@ pub fn run(
     bindings: &[Option<u16>],
     cells: &mut [Cell],
     count: &mut Count,
-    stack: &mut [Open],
 ) -> Option<u16>
     requires counted { count.old.len ≤ length cells.old }
     requires few { length cells.old ≤ 2048 }
     requires short { length nodes.now ≤ 32 }
     requires one { Whole nodes.now }
     requires small { Small nodes.now }
-    requires deep { length nodes.now ≤ length stack.old }
     ensures gives { Gives (whole (length cells.old) bindings.now (forest nodes.now 0) (take count.old.len cells.old)) result cells.new count.new.len }
     ensures grew { Grew cells.old count.old.len cells.new count.new.len }
 {
-    let mut depth = 0;
-    let mut at = 0;
-    loop {
-        match advance(nodes, bindings, cells, count, stack, depth, at) {
-            Turn::On { depth: d, at: a } => {
-                depth = d;
-                at = a;
-            }
-            Turn::Done(cell) => return Some(cell),
-            Turn::Full => return None,
+    let mut waiting = Row::new(Open::new(0, 0));
+    for node in nodes {
+        if let ControlFlow::Break(cell) = take_node(*node, bindings, cells, count, &mut waiting)? {
+            return Some(cell);
         }
     }
+    None
 }
 
-// Enters the top symbol if it has its arguments, or else takes the next node.
-fn advance(
-    nodes: &[Node],
+// Takes the next node: a variable is an argument that is there, and a symbol wants its own. Ends with the cell of the whole term.
+fn take_node(
+    node: Node,
     bindings: &[Option<u16>],
     cells: &mut [Cell],
     count: &mut Count,
-    stack: &mut [Open],
-    depth: usize,
-    at: usize,
-) -> Turn
+    waiting: &mut Row<Open, 32>,
+) -> Option<ControlFlow<u16>>
     requires counted { count.old.len ≤ length cells.old }
     requires few { length cells.old ≤ 2048 }
-    requires ready { Ready nodes.now stack.old depth at }
-    ensures turned { Turned (left bindings.now nodes.now stack.old depth at cells.old count.old.len) bindings.now nodes.now stack.new cells.new count.new.len result }
-    ensures falls { Falls (weight nodes.now depth at) nodes.now result }
+    requires small { small node ≡ true }
+    requires waits { Waiting (opens waiting.old) }
+    requires room { length (items waiting.old) < 32 }
+    ensures turned { (ts us : Terms) → in_front node (Some us) ≡ Some ts → width ts ≡ wanted (opens waiting.old) → Turned (onward (length cells.old) bindings.now (opens waiting.old) ts (take count.old.len cells.old)) bindings.now (opens waiting.new) us cells.new count.new.len result }
+    ensures deeper { length (items waiting.new) ≤ length (items waiting.old) + 1 }
     ensures grew { Grew cells.old count.old.len cells.new count.new.len }
 {
-    match finished(stack, depth) {
-        Some(cell) => match put(cells, count, cell) {
-            Some(value) => deliver(stack, depth - 1, at, value),
-            None => Turn::Full,
-        },
-        None => take_node(nodes, bindings, cells, count, stack, depth, at),
+    match node {
+        Node::Var(x) => {
+            let cell = variable(cells, count, bindings, x)?;
+            match waiting.pop() {
+                Some(open) => settle(open.with(cell), cells, count, waiting),
+                None => Some(ControlFlow::Break(cell)),
+            }
+        }
+        Node::App { symbol, arity } => settle(Open::new(symbol, arity), cells, count, waiting),
     }
 }
 
-// The cell of the top symbol, if that has all its arguments.
-fn finished(stack: &[Open], depth: usize) -> Option<Cell>
-    requires { depth ≤ length stack.now }
-    ensures { Finished stack.now depth result }
+// A symbol that has all its arguments is entered, and is the next argument of the one that waits; one that has not waits.
+fn settle(
+    first: Open,
+    cells: &mut [Cell],
+    count: &mut Count,
+    waiting: &mut Row<Open, 32>,
+) -> Option<ControlFlow<u16>>
+    requires counted { count.old.len ≤ length cells.old }
+    requires few { length cells.old ≤ 2048 }
+    requires sound { Sound (first ∷ opens waiting.old) }
+    requires room { length (items waiting.old) < 32 }
+    ensures turned { (bindings : List (Option ℕ)) (ts : Terms) → width ts ≡ wanted (first ∷ opens waiting.old) → Turned (onward (length cells.old) bindings (first ∷ opens waiting.old) ts (take count.old.len cells.old)) bindings (opens waiting.new) ts cells.new count.new.len result }
+    ensures deeper { length (items waiting.new) ≤ length (items waiting.old) + 1 }
+    ensures grew { Grew cells.old count.old.len cells.new count.new.len }
 {
-    if depth == 0 {
-        return None;
-    }
-    let Open {
-        symbol,
-        arity,
-        args,
-        have,
-    } = stack[depth - 1];
-    if have == arity {
-        Some(Cell::App {
+    let mut open = first;
+    while open.have == open.arity {
+        let Open {
             symbol,
             arity,
             args,
-        })
-    } else {
-        None
-    }
-}
-
-// Takes the next node: a variable is a finished cell, and a symbol waits for its arguments.
-fn take_node(
-    nodes: &[Node],
-    bindings: &[Option<u16>],
-    cells: &mut [Cell],
-    count: &mut Count,
-    stack: &mut [Open],
-    depth: usize,
-    at: usize,
-) -> Turn
-    requires counted { count.old.len ≤ length cells.old }
-    requires few { length cells.old ≤ 2048 }
-    requires ready { Ready nodes.now stack.old depth at }
-    requires waits { Finished stack.old depth None }
-    ensures turned { Turned (left bindings.now nodes.now stack.old depth at cells.old count.old.len) bindings.now nodes.now stack.new cells.new count.new.len result }
-    ensures falls { Falls (weight nodes.now depth at) nodes.now result }
-    ensures grew { Grew cells.old count.old.len cells.new count.new.len }
-{
-    let node = nodes[at];
-    match node {
-        Node::Var(x) => match variable(cells, count, bindings, x) {
-            Some(value) => deliver(stack, depth, at + 1, value),
-            None => Turn::Full,
-        },
-        Node::App { symbol, arity } => {
-            stack[depth] = Open {
+            ..
+        } = open;
+        let cell = put(
+            cells,
+            count,
+            Cell::App {
                 symbol,
                 arity,
-                args: [0; 4],
-                have: 0,
-            };
-            Turn::On {
-                depth: depth + 1,
-                at: at + 1,
-            }
+                args,
+            },
+        )?;
+        match waiting.pop() {
+            Some(next) => open = next.with(cell),
+            None => return Some(ControlFlow::Break(cell)),
         }
     }
-}
-
-// A finished cell goes to the top symbol as its next argument; where none waits, all is done.
-fn deliver(stack: &mut [Open], depth: usize, at: usize, cell: u16) -> Turn
-    requires within { depth ≤ length stack.old }
-    requires room { 0 < depth → (slice_index_or stack.old (depth - 1) idle).have < 4 }
-    ensures { Delivered stack.old depth at cell stack.new result }
-{
-    if depth == 0 {
-        return Turn::Done(cell);
-    }
-    let Open {
-        symbol,
-        arity,
-        args,
-        have,
-    } = stack[depth - 1];
-    let mut filled = args;
-    filled[have as usize] = cell;
-    stack[depth - 1] = Open {
-        symbol,
-        arity,
-        args: filled,
-        have: have + 1,
-    };
-    Turn::On { depth, at }
+    waiting.push(open).ok()?;
+    Some(ControlFlow::Continue(()))
 }

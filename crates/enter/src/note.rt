@@ -16,11 +16,7 @@ pub fn put(cells: &mut [Cell], count: &mut Count, cell: Cell) -> Option<u16>
         return Some(at as u16);
     }
     let at = list.len();
-    if list.append(cell) {
-        Some(at as u16)
-    } else {
-        None
-    }
+    list.append(cell).then_some(at as u16)
 }
 
 // A variable stands for the cell that it is bound to, or else for itself.
@@ -35,11 +31,8 @@ pub fn variable(
     ensures gives { Gives (bound (length cells.old) x (take count.old.len cells.old) (slice_index_or bindings.now x None)) result cells.new count.new.len }
     ensures grew { Grew cells.old count.old.len cells.new count.new.len }
 {
-    let at = x as usize;
-    if at < bindings.len() {
-        if let Some(cell) = bindings[at] {
-            return Some(cell);
-        }
+    match bindings.get(usize::from(x)).copied().flatten() {
+        Some(cell) => Some(cell),
+        None => put(cells, count, Cell::Var(x)),
     }
-    put(cells, count, Cell::Var(x))
 }

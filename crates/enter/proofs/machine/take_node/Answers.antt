@@ -1,62 +1,66 @@
-use Rattle.std.proofs.Common.{◌+◌, sym, refl, ◌∙◌, subst, arith}
-use Rattle.enter.specs.Machine.{Turned}
-use Rattle.enter.proofs.Machining.{has_node, push_room, var_holding, var_left, app_ready, app_left, deliver_room, delivered, falls, held_left, chain_none}
-use Rattle.enter.proofs.Noting.{grew_same}
+use Rattle.std.proofs.Common.{◌∷◌, [], length, take, Some, sym, ap, ◌∙◌, subst, arith}
+use Rattle.std.proofs.lemmas.List.{length-append}
+use Rattle.terms.specs.Preorder.{in_front}
+use Rattle.row.specs.Items.{items}
+use Rattle.enter.specs.Machine.{Turned, Waiting, opens, later}
+use Rattle.enter.proofs.Machining.{taken, small_arity, var_wide, var_left, var_next, app_wide, app_left, chain_none}
+use Rattle.enter.proofs.Noting.{grew_trans}
 use Rattle.enter.proofs.machine.take_node.Goals as goal
 
-pub offset_bounds-nodes-at : goal.offset_bounds-nodes-at
-offset_bounds-nodes-at c = let l = has_node c.requires.ready c.requires.waits in omega (arith, c.requires.ready.few)
+pub with-requires : goal.with-requires
+with-requires c = let waits = subst Waiting (taken c.args.waiting.now c.pop.new.self c.in-Some.open c.in-Some.ensures) c.requires.waits in omega (arith, waits.0, waits.1)
 
-pub bounds-nodes-at : goal.bounds-nodes-at
-bounds-nodes-at c = has_node c.requires.ready c.requires.waits
-
-pub overflow_add-at : goal.overflow_add-at
-overflow_add-at c = let l = has_node c.requires.ready c.requires.waits in omega (arith, c.requires.ready.few)
-
-pub deliver-requires : goal.deliver-requires
-deliver-requires c = record {
-  within = c.requires.ready.within;
-  room = deliver_room (var_holding c.requires.ready c.requires.waits c.in-Var.x c.in-Var.is);
-}
-
-pub bounds-stack-depth : goal.bounds-stack-depth
-bounds-stack-depth c = push_room c.requires.ready c.requires.waits
-
-pub overflow_add-result-in-App : goal.overflow_add-result-in-App
-overflow_add-result-in-App c = let l = has_node c.requires.ready c.requires.waits in omega (arith, c.requires.ready.few)
-
-pub returns-in-Some : goal.returns-in-Some
-returns-in-Some c =
-    let bindings = c.args.bindings.now in
-    let nodes = c.args.nodes.now in
-    let stack = c.args.stack.now in
-    let before = c.args.cells.now in
-    let now = c.variable.new.cells in
-    let n = c.variable.new.count.len in
-    let told = c.in-Some.ensures in
-    let from = var_left c.requires.ready c.requires.waits c.in-Var.x c.in-Var.is bindings before c.args.count.now.len in
-    let e = held_left _ _ bindings nodes stack c.args.depth (c.args.at + 1) c.in-Some.value before now n told.grew.size from told.gives in
+pub settle-requires : goal.settle-requires
+settle-requires c =
+    let grew = c.in_ok-cell-in-Var.ensures.grew in
+    let waits = subst Waiting (taken c.args.waiting.now c.pop.new.self c.in-Some.open c.in-Some.ensures) c.requires.waits in
+    let fewer = ap length c.in-Some.ensures ∙ length-append (items c.pop.new.self) (c.in-Some.open ∷ []) in
     record {
-      turned = subst (λ z. Turned z bindings nodes c.deliver.new.stack now n c.deliver.result) (sym e)
-          (delivered bindings now n c.in-Some.value c.deliver.new.stack c.deliver.result (var_holding c.requires.ready c.requires.waits c.in-Var.x c.in-Var.is) c.deliver.ensures);
-      falls = falls _ nodes stack c.deliver.new.stack c.args.depth (c.args.at + 1) c.in-Some.value c.deliver.result c.deliver.ensures (omega (arith, has_node c.requires.ready c.requires.waits));
-      grew = told.grew;
+      counted = grew.within;
+      few = omega (arith, grew.size, c.requires.few);
+      sound = rw c.with.ensures (omega (arith, waits.0), waits.1, waits.2);
+      room = omega (arith, fewer, c.requires.room);
     }
 
-pub returns-in-None : goal.returns-in-None
-returns-in-None c = record {
-  turned = var_left c.requires.ready c.requires.waits c.in-Var.x c.in-Var.is c.args.bindings.now c.args.cells.now c.args.count.now.len
-      ∙ chain_none _ _ c.in-None.ensures.gives;
-  falls = tt;
-  grew = c.in-None.ensures.grew;
+pub settle-requires-in-App : goal.settle-requires-in-App
+settle-requires-in-App c = record {
+  counted = c.requires.counted;
+  few = c.requires.few;
+  sound = rw c.new.ensures (omega arith, small_arity c.args.node c.in-App.symbol c.in-App.arity c.in-App.is c.requires.small, c.requires.waits);
+  room = c.requires.room;
 }
 
-pub returns-in-App : goal.returns-in-App
-returns-in-App c = record {
-  turned = (
-    app_ready c.requires.ready c.requires.waits c.in-App.symbol c.in-App.arity c.in-App.is,
-    app_left c.requires.ready c.requires.waits c.in-App.symbol c.in-App.arity c.in-App.is c.args.bindings.now c.args.cells.now c.args.count.now.len,
-  );
-  falls = omega (arith, has_node c.requires.ready c.requires.waits);
-  grew = grew_same c.requires.counted refl refl;
-}
+pub returns-in_err-cell-in-Var-clause-turned : goal.returns-in_err-cell-in-Var-clause-turned
+returns-in_err-cell-in-Var-clause-turned c = rw c.from_residual.ensures (λ ts us e w.
+    var_left _ _ _ c.requires.waits ts us w _ c.in-Var.x (ap (λ n. in_front n (Some us)) (sym c.in-Var.is) ∙ e) ∙ chain_none _ _ c.in_err-cell-in-Var.ensures.gives)
+
+pub returns-in-Some-clause-turned : goal.returns-in-Some-clause-turned
+returns-in-Some-clause-turned c ts us e w =
+    let m = length c.args.cells.now in
+    let bindings = c.args.bindings.now in
+    let os = opens c.args.waiting.now in
+    let b = take c.args.count.now.len c.args.cells.now in
+    let x = c.in-Var.x in
+    let v = c.in_ok-cell-in-Var.cell in
+    let front = ap (λ n. in_front n (Some us)) (sym c.in-Var.is) ∙ e in
+    let is = taken c.args.waiting.now c.pop.new.self c.in-Some.open c.in-Some.ensures in
+    let told = c.in_ok-cell-in-Var.ensures in
+    let wide = var_wide m bindings os c.requires.waits ts us w b x front ∙ ap later is in
+    let same = var_next m bindings os c.requires.waits ts us w b x front (length c.variable.new.cells) c.in-Some.open (opens c.pop.new.self) (take c.variable.new.count.len c.variable.new.cells) v is told.grew.size told.gives in
+    subst (λ z. Turned z bindings (opens c.settle.new.waiting) us c.settle.new.cells c.settle.new.count.len c.settle.result) (sym same) ((rw c.with.ensures at c.settle.ensures.turned) bindings us wide)
+
+pub returns-in-Some-clause-grew : goal.returns-in-Some-clause-grew
+returns-in-Some-clause-grew c = grew_trans c.in_ok-cell-in-Var.ensures.grew c.settle.ensures.grew
+
+pub returns-in-App-clause-turned : goal.returns-in-App-clause-turned
+returns-in-App-clause-turned c ts us e w =
+    let m = length c.args.cells.now in
+    let bindings = c.args.bindings.now in
+    let os = opens c.args.waiting.now in
+    let b = take c.args.count.now.len c.args.cells.now in
+    let f = c.in-App.symbol in
+    let a = c.in-App.arity in
+    let front = ap (λ n. in_front n (Some us)) (sym c.in-App.is) ∙ e in
+    let wide = app_wide m bindings os c.requires.waits ts us w b f a front in
+    let same = app_left m bindings os c.requires.waits ts us w b f a front in
+    subst (λ z. Turned z bindings (opens c.settle-in-App.new.waiting) us c.settle-in-App.new.cells c.settle-in-App.new.count.len c.settle-in-App.result) (sym same) ((rw c.new.ensures at c.settle-in-App.ensures.turned) bindings us wide)
