@@ -64,13 +64,13 @@ fn take_turn<I: ExactIndex>(
     }
     let mut marks = [false; 2048];
     mark_reached(&cells[..count.len], root, &mut marks);
-    let redex = next_redex(index, &cells[..count.len], root, &marks, settled).ok_or(
-        Outcome::Finished,
-    )?;
+    let redex = next_redex(index, &cells[..count.len], root, &marks, settled);
+    let redex = redex.ok_or(Outcome::Finished)?;
     if steps.len >= trace.len() {
         return Err(Outcome::Spent);
     }
-    let applied = apply(index, lowers, cells, count, root, redex, &marks).ok_or(Outcome::NoRoom)?;
+    let applied = apply(index, lowers, cells, count, root, redex, &marks);
+    let applied = applied.ok_or(Outcome::NoRoom)?;
     trace[steps.len] = Step {
         side,
         equation: redex.equation,
