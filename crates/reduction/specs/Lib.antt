@@ -4,3 +4,4 @@ pub mod Redexes
 pub mod Steps
 pub mod Runs
 pub mod Laws
+pub mod Words

@@ -1,28 +1,13 @@
 -- The text of a run's lines.
 use Rattle.std.specs.Prelude.{ℕ, List, ◌∷◌, ◌++◌, codes, decimal}
-use Rattle.reduction.specs.declared.outcome.Outcome.{Outcome}
-use Rattle.reduction.specs.declared.outcome.Outcome.TheVariants.{Finished, Spent, NoRoom}
 use Rattle.trace.specs.declared.Side.{Side}
 use Rattle.trace.specs.declared.Side.TheVariants.{Left, Right}
 use Rattle.trace.specs.declared.Step.{Step}
 use Rattle.run.specs.declared.answer.Answer.{Answer}
 use Rattle.run.specs.declared.answer.Ended.{Ended}
-use Rattle.run.specs.declared.answer.Verdict.{Verdict}
-use Rattle.run.specs.declared.answer.Verdict.TheVariants.{Met, Parted, Open}
-
-abbrev pub outcome_word : Outcome → List ℕ
-outcome_word Finished = codes "finished"
-outcome_word Spent = codes "spent"
-outcome_word NoRoom = codes "noroom"
-
-abbrev pub side_word : Side → List ℕ
-side_word Left = codes "left"
-side_word Right = codes "right"
-
-abbrev pub verdict_word : Verdict → List ℕ
-verdict_word Met = codes "met"
-verdict_word Parted = codes "parted"
-verdict_word Open = codes "open"
+pub use Rattle.trace.specs.Words.{side_word}
+pub use Rattle.reduction.specs.Words.{outcome_word}
+pub use Rattle.run.specs.Words.{verdict_word}
 
 abbrev pub end_text : Side → Ended → List ℕ
 end_text side e = side_word side ++ (32 ∷ (outcome_word e.outcome ++ (32 ∷ decimal e.cell)))

@@ -1,5 +1,4 @@
 // A side's final term, as a line.
-use crate::side_word;
 use std::fmt;
 use trace::Side;
 
@@ -12,8 +11,7 @@ pub struct Final<'a> {
 
 impl<'a> fmt::Display for Final<'a> {
     fn fmt<W: fmt::Write>(&self, f: &mut fmt::Formatter<W>) -> fmt::Result {
-        let side = side_word(self.side);
-        write!(f, "final {side} ")?;
+        write!(f, "final {} ", self.side)?;
         for byte in self.text {
             f.write_char(*byte as char)?;
         }

@@ -1,7 +1,8 @@
 -- A goal's run from its two sides' runs.
-use Rattle.std.proofs.Common.{◌≡◌, ℕ, ◌-◌, Bool, false, List, ◌++◌, length, get_or, take, Ok, sym, ap, ◌∙◌, subst, arith}
+use Rattle.std.proofs.Common.{◌≡◌, ℕ, ◌-◌, Bool, false, List, ◌++◌, length, get_or, take, Ok, sym, ap, ◌∙◌, subst, arith, replicate, inl, inr}
 use mathlib.Core.Bool.{false≢true}
-use Rattle.std.proofs.lemmas.List.{length-take-le}
+use Rattle.std.proofs.lemmas.List.{length-take-le, length-replicate, get_or-replicate, get_or_past}
+use Rattle.std.proofs.lemmas.Bool.{cases_lt}
 use Rattle.terms.specs.Patterns.{term_of}
 use Rattle.terms.specs.Sig.{Sig}
 use Rattle.terms.specs.declared.pattern.Pattern.{Pattern}
@@ -145,3 +146,7 @@ module _ (s : Signature) (m low : Map) (p q : Pattern) (cells : List Cell) (trac
       within = (right_ran.ready.counted, omega (arith, right_ran.ready.records, right_ran.same_length), right_ran.grown.size ∙ same₂, right_ran.same_length ∙ left_ran.same_length);
       counts = counts;
     }
+
+-- no cell is settled at first
+pub unsettled : (n j : ℕ) → get_or (replicate n false) j false ≡ false
+unsettled n j = elim (cases_lt j n) [ inl l ↦ get_or-replicate n j false false l | inr g ↦ get_or_past (replicate n false) j false (omega (arith, g, length-replicate n false)) ]

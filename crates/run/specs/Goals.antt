@@ -98,6 +98,10 @@ pub record Answered (S : Sig) (E : Equations) (p q : Pattern) (cells : List Cell
 abbrev pub Limited : List Cell → List Step → Type 0
 Limited cells trace = InLimits cells × (length trace ≤ 4096)
 
+abbrev pub RoomChecked : List Cell → List Step → Result (Unit {0}) Refusal → Type 0
+RoomChecked cells trace (Ok _) = Limited cells trace
+RoomChecked cells trace (Err e) = (Limited cells trace → ⊥) × (e ≡ Limits)
+
 abbrev pub GoalRun : Signature → (m low : Map) (p q : Pattern) (cells : List Cell) (n : ℕ) (trace : List Step) (k : ℕ) (cells' : List Cell) (n' : ℕ) (trace' : List Step) (k' : ℕ) → Result Answer Refusal → Type 0
 GoalRun s m low p q cells n trace k cells' n' trace' k' (Ok a) = Limited cells trace
     × ((E : Equations) → Filed (sig_of s) E m low → Answered (sig_of s) E p q cells trace cells' n' trace' k' a)

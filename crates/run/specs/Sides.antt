@@ -1,5 +1,5 @@
 -- One side's run: m has the higher sides, low the lower sides; n cells of the bank and k records of the trace are counted.
-use Rattle.std.specs.Prelude.{◌≡◌, ℕ, ◌+◌, ◌-◌, ◌<◌, ◌≤◌, Bool, List, ◌++◌, length, take, slice_set}
+use Rattle.std.specs.Prelude.{◌≡◌, ℕ, ◌+◌, ◌-◌, ◌<◌, ◌≤◌, Bool, List, ◌++◌, length, take, Ok, Err, Result, slice_set}
 use Rattle.terms.specs.Sig.{Sig}
 use Rattle.bank.specs.declared.cell.Cell.{Cell}
 use Rattle.bank.specs.Rules.{Rules}
@@ -14,8 +14,6 @@ use Rattle.trace.specs.declared.Step.{Step}
 use Rattle.apply.specs.Applies.{Filed}
 use Rattle.strategy.specs.Searches.{Settled}
 use Rattle.run.specs.declared.answer.Ended.{Ended}
-use Rattle.run.specs.declared.side.Turn.{Turn}
-use Rattle.run.specs.declared.side.Turn.TheVariants.{On, End}
 
 -- a bank of 1 to 2,048 cells that keeps its rules, the root of a term in it, and a trace with its count
 pub record Ready (S : Sig) (E : Equations) (m low : Map) (r : ℕ) (cells : List Cell) (n : ℕ) (long k : ℕ) (settled : List Bool) : Type 0 where
@@ -70,8 +68,8 @@ pub record Halted (S : Sig) (E : Equations) (m low : Map) (r : ℕ) (cells : Lis
   pub same_trace : (trace' ≡ trace) × (k' ≡ k)
   pub ready : Ready S E m low r cells' n' (length trace) k' settled'
 
-abbrev pub Turned : (m low : Map) (side : Side) (r : ℕ) (cells : List Cell) (n : ℕ) (trace : List Step) (k : ℕ) (settled : List Bool) (cells' : List Cell) (n' : ℕ) (trace' : List Step) (k' : ℕ) (settled' : List Bool) → Turn → Type 0
-Turned m low side r cells n trace k settled cells' n' trace' k' settled' (On r') = (k < length trace) × (k' ≡ k + 1)
+abbrev pub Turned : (m low : Map) (side : Side) (r : ℕ) (cells : List Cell) (n : ℕ) (trace : List Step) (k : ℕ) (settled : List Bool) (cells' : List Cell) (n' : ℕ) (trace' : List Step) (k' : ℕ) (settled' : List Bool) → Result ℕ Outcome → Type 0
+Turned m low side r cells n trace k settled cells' n' trace' k' settled' (Ok r') = (k < length trace) × (k' ≡ k + 1)
     × ((S : Sig) (E : Equations) → Ready S E m low r cells n (length trace) k settled → Onward S E m low side r cells n trace k cells' n' trace' k' settled' r')
-Turned m low side r cells n trace k settled cells' n' trace' k' settled' (End o) =
+Turned m low side r cells n trace k settled cells' n' trace' k' settled' (Err o) =
     (S : Sig) (E : Equations) → Ready S E m low r cells n (length trace) k settled → Halted S E m low r cells n trace k cells' n' trace' k' settled' o

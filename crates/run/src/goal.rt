@@ -1,7 +1,7 @@
 // A goal: two terms entered into an empty bank, the left side rewritten until it ends, then the right.
 ghost use Rattle.std.specs.Prelude.{◌≡◌};
 ghost use Rattle.entries.specs.Stored.{map_of};
-ghost use Rattle.run.specs.Goals.{GoalRun, EnteredBoth, verdict_of};
+ghost use Rattle.run.specs.Goals.{GoalRun, EnteredBoth, RoomChecked, verdict_of};
 
 use crate::answer::{Answer, Ended, Verdict};
 use crate::side::run_side;
@@ -11,7 +11,6 @@ use entries::Entries;
 use index::exact::ExactIndex;
 use index::index::Index;
 use lent_list::Count;
-use reach::clear;
 use reduction::outcome::Outcome;
 use refusal::Refusal;
 use signature::signature::Signature;
@@ -31,13 +30,10 @@ pub fn run_goal<I: ExactIndex>(
 ) -> Result<Answer, Refusal>
     ensures { GoalRun signature.now (I.Index.stored index.now) (map_of lowers.now) left.now right.now cells.old count.old.len trace.old steps.old.len cells.new count.new.len trace.new steps.new.len result }
 {
-    if cells.is_empty() || cells.len() > 2048 || trace.len() > 4096 {
-        return Err(Refusal::Limits);
-    }
+    check_room(cells, trace)?;
     let (left, right) = enter_both(signature, left, right, cells, count)?;
     steps.len = 0;
     let mut settled = [false; 2048];
-    clear(&mut settled);
     let left = run_side(
         index,
         lowers,
@@ -67,6 +63,16 @@ pub fn run_goal<I: ExactIndex>(
         terms: count.len,
         verdict: verdict(left, right),
     })
+}
+
+// 1 to 2,048 cells, and at most 4,096 records.
+pub fn check_room(cells: &[Cell], trace: &[Step]) -> Result<(), Refusal>
+    ensures { RoomChecked cells.now trace.now result }
+{
+    if cells.is_empty() || cells.len() > 2048 || trace.len() > 4096 {
+        return Err(Refusal::Limits);
+    }
+    Ok(())
 }
 
 // The cells of both terms in a bank that was emptied; where they do not fit, it stays empty.

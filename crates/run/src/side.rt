@@ -34,8 +34,8 @@ pub fn run_side<I: ExactIndex>(
         match take_turn(
             index, lowers, side, root, cells, count, trace, steps, settled,
         ) {
-            Turn::On(after) => root = after,
-            Turn::End(outcome) => {
+            Ok(after) => root = after,
+            Err(outcome) => {
                 return Ended {
                     outcome,
                     cell: root,
@@ -45,13 +45,7 @@ pub fn run_side<I: ExactIndex>(
     }
 }
 
-// One step more, or the end.
-#[derive(Clone, Copy)]
-pub enum Turn {
-    On(u16),
-    End(Outcome),
-}
-
+// The cell of the term after one step more, or how the side ends.
 fn take_turn<I: ExactIndex>(
     index: &I,
     lowers: &Entries<128>,
@@ -62,23 +56,21 @@ fn take_turn<I: ExactIndex>(
     trace: &mut [Step],
     steps: &mut Count,
     settled: &mut [bool],
-) -> Turn
+) -> Result<u16, Outcome>
     ensures { Turned (I.Index.stored index.now) (map_of lowers.now) side root cells.old count.old.len trace.old steps.old.len settled.old cells.new count.new.len trace.new steps.new.len settled.new result }
 {
     if count.len > cells.len() {
-        return Turn::End(Outcome::NoRoom);
+        return Err(Outcome::NoRoom);
     }
     let mut marks = [false; 2048];
     mark_reached(&cells[..count.len], root, &mut marks);
-    let Some(redex) = next_redex(index, &cells[..count.len], root, &marks, settled) else {
-        return Turn::End(Outcome::Finished);
-    };
+    let redex = next_redex(index, &cells[..count.len], root, &marks, settled);
+    let redex = redex.ok_or(Outcome::Finished)?;
     if steps.len >= trace.len() {
-        return Turn::End(Outcome::Spent);
+        return Err(Outcome::Spent);
     }
-    let Some(applied) = apply(index, lowers, cells, count, root, redex, &marks) else {
-        return Turn::End(Outcome::NoRoom);
-    };
+    let applied = apply(index, lowers, cells, count, root, redex, &marks);
+    let applied = applied.ok_or(Outcome::NoRoom)?;
     trace[steps.len] = Step {
         side,
         equation: redex.equation,
@@ -87,5 +79,5 @@ fn take_turn<I: ExactIndex>(
         after: applied.after,
     };
     steps.len += 1;
-    Turn::On(applied.after)
+    Ok(applied.after)
 }

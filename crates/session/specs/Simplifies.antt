@@ -27,10 +27,6 @@ abbrev pub GoalChecked : Equation → Result (Unit {0}) Refusal → Type 0
 GoalChecked q (Ok _) = Goal q
 GoalChecked q (Err e) = (Goal q → ⊥) × (e ≡ RoleOrSign)
 
-abbrev pub RoomChecked : List Cell → List Step → Result (Unit {0}) Refusal → Type 0
-RoomChecked cells trace (Ok _) = Limited cells trace
-RoomChecked cells trace (Err e) = (Limited cells trace → ⊥) × (e ≡ Limits)
-
 pub record Posed (g : Signature) (text : List ℕ) (cells : List Cell) (trace : List Step) (q : Equation) : Type 0 where
   pub limited : Limited cells trace
   pub read : Outcome g text (Ok q)

@@ -1,7 +1,7 @@
 // What a call looks at before it touches the file.
 ghost use Rattle.session.specs.Rules.{Ranged, RuleChecked, Turns};
 
-use formula::equation::{Equation, Role, Sign};
+use formula::equation::Equation;
 use order::ReductionOrder;
 use order::orient::orient;
 use reduction::oriented::Oriented;
@@ -12,19 +12,19 @@ use terms::side::Side;
 pub fn check_number(number: u32) -> Result<u16, Refusal>
     ensures { Ranged number result }
 {
-    if number < 1 || number > 30_000 {
-        return Err(Refusal::NumberRange);
+    match u16::try_from(number) {
+        Ok(number @ 1..=30_000) => Ok(number),
+        _ => Err(Refusal::NumberRange),
     }
-    Ok(number as u16)
 }
 
 pub fn check_rule(equation: &Equation) -> Result<(), Refusal>
     ensures { RuleChecked equation.now result }
 {
-    match (equation.role, equation.sign) {
-        (Role::Axiom | Role::Hypothesis, Sign::Equal) => Ok(()),
-        _ => Err(Refusal::RoleOrSign),
+    if !equation.is_rule() {
+        return Err(Refusal::RoleOrSign);
     }
+    Ok(())
 }
 
 pub fn turn<O: ReductionOrder>(

@@ -1,9 +1,9 @@
 // Simplifying a goal.
-ghost use Rattle.session.specs.Simplifies.{GoalChecked, RoomChecked, Simplifies};
+ghost use Rattle.session.specs.Simplifies.{GoalChecked, Simplifies};
 
 use super::Session;
 use bank::cell::Cell;
-use formula::equation::{Equation, Role, Sign};
+use formula::equation::Equation;
 use index::exact::ExactIndex;
 use index::index::Index;
 use lent_list::Count;
@@ -11,7 +11,7 @@ use order::ReductionOrder;
 use refusal::Refusal;
 use round_trip::read;
 use run::answer::Answer;
-use run::goal::run_goal;
+use run::goal::{check_room, run_goal};
 use trace::Step;
 
 impl<I: ExactIndex, O: ReductionOrder> Session<I, O> {
@@ -45,21 +45,11 @@ impl<I: ExactIndex, O: ReductionOrder> Session<I, O> {
     }
 }
 
-// 1 to 2,048 cells, and at most 4,096 records.
-fn check_room(cells: &[Cell], trace: &[Step]) -> Result<(), Refusal>
-    ensures { RoomChecked cells.now trace.now result }
-{
-    if cells.is_empty() || cells.len() > 2048 || trace.len() > 4096 {
-        return Err(Refusal::Limits);
-    }
-    Ok(())
-}
-
 fn check_goal(equation: &Equation) -> Result<(), Refusal>
     ensures { GoalChecked equation.now result }
 {
-    match (equation.role, equation.sign) {
-        (Role::NegatedConjecture, Sign::Unequal) => Ok(()),
-        _ => Err(Refusal::RoleOrSign),
+    if !equation.is_goal() {
+        return Err(Refusal::RoleOrSign);
     }
+    Ok(())
 }
