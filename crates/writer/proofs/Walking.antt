@@ -9,7 +9,7 @@ use Rattle.bank.specs.declared.cell.Cell.{Cell}
 use Rattle.bank.specs.declared.cell.Cell.TheVariants.{Var, App}
 use Rattle.bank.specs.Rules.{Rules, Node}
 use Rattle.bank.specs.Means.{Means, MeansAll}
-use Rattle.bank.proofs.Readings.{node, clash, open_var, open_app, open_none, open_args}
+use Rattle.bank.proofs.Readings.{node, open_var, open_app, open_none, open_args}
 use Rattle.row.specs.Items.{items}
 use Rattle.row.specs.declared.Row.{Row}
 use Rattle.writer.specs.Walks.{Left, Wrote, Turned, onward, frames}
@@ -26,10 +26,6 @@ put_on old new f e = ap reverse e ∙ reverse-append (items old) (f ∷ [])
 -- what `ok` and `?` say of a push
 none_some : {X : Type 0} {x : X} → None ≡ Some x → ⊥
 none_some e = let z : ◌≡◌ {A = ℕ} 0 1 = cc in omega arith
-
-pub was_err : {E : Type 0} (P Q : Type 0) (r : Result (Unit {0}) E) (o : Option (Unit {0})) → o ≡ result_ok r → o ≡ None → MatchResult r (λ _. P) (λ _. Q) → Q
-was_err P Q (Ok u) o e n h = absurd (none_some (sym n ∙ e))
-was_err P Q (Err x) o e n h = h
 
 pub was_ok : {E : Type 0} (P Q : Type 0) (r : Result (Unit {0}) E) (o : Option (Unit {0})) (u : Unit {0}) → o ≡ result_ok r → o ≡ Some u → MatchResult r (λ _. P) (λ _. Q) → P
 was_ok P Q (Ok v) o u e s h = h
@@ -103,9 +99,6 @@ module _ {S : Sig} (ns : List (List ℕ)) (b : List Cell) (rules : Rules S b) (c
 
   -- what is left of a cell's term
   module _ (k : ℕ) (left : Left ns b (Rest c k ∷ fs) text) where
-    pub rest_var : (x : ℕ) → get_or b c (Var 0) ≡ Var x → ⊥
-    rest_var x e = clash e left.pending.stands
-
     module _ (f a : ℕ) (args : List ℕ) (e : get_or b c (Var 0) ≡ App f a args) where
       inside : c < length b
       inside = omega (arith, left.falls)
