@@ -1,20 +1,40 @@
 -- One turn of the walk, case by case.
-use Rattle.std.proofs.Common.{◌≡◌, ℕ, zero, suc, ◌+◌, ◌-◌, ◌<◌, ◌≤◌, List, [], ◌∷◌, ◌++◌, reverse, length, get_or, take, drop, set, decimal, sym, refl, ap, ◌∙◌, subst, ap₂, inl, inr, append_assoc, append-nil, add-one, arith}
-use Rattle.std.proofs.lemmas.List.{length-take-le, drop_all, drop_more, get_or-take, length-set}
-use Rattle.lent_list.proofs.Stacks.{peel, pushed, replaced, height}
+use Rattle.std.proofs.Common.{◌≡◌, ℕ, zero, suc, ◌+◌, ◌<◌, ◌≤◌, List, [], ◌∷◌, ◌++◌, reverse, length, get_or, take, drop, decimal, Option, Some, None, Ok, Err, Result, IsSomeAnd, MatchResult, sym, refl, ap, ◌∙◌, subst, ap₂, append_assoc, append-nil, add-one, arith}
+use Rattle.std.specs.Result.{result_ok}
+use Rattle.std.proofs.lemmas.List.{length-take-le, drop_all, drop_more, get_or-take, reverse-append}
 use Rattle.terms.specs.Term.{Term, Terms, app, nil, ◌▹◌}
 use Rattle.terms.specs.Sig.{Sig}
 use Rattle.signature.specs.Written.{written, written_args, written_more}
 use Rattle.bank.specs.declared.cell.Cell.{Cell}
 use Rattle.bank.specs.declared.cell.Cell.TheVariants.{Var, App}
-use Rattle.bank.specs.Rules.{Fitting, Node}
+use Rattle.bank.specs.Rules.{Rules, Node}
 use Rattle.bank.specs.Means.{Means, MeansAll}
-use Rattle.bank.proofs.Readings.{node, clash, open_var, open_app, open_none, open_args}
-use Rattle.writer.specs.Walks.{Begun, Stacked, Left, Walking, onward}
+use Rattle.bank.proofs.Readings.{node, open_var, open_app, open_none, open_args}
+use Rattle.row.specs.Items.{items}
+use Rattle.row.specs.declared.Row.{Row}
+use Rattle.writer.specs.Walks.{Left, Wrote, Turned, onward, frames}
 use Rattle.writer.specs.declared.walk.Frame.{Frame}
+use Rattle.writer.specs.declared.walk.Frame.TheVariants.{Whole, Rest}
 
-abbrev pub blank : Frame
-blank = record { cell = 0; next = 0 }
+-- a frame is taken off the row, or put on it
+pub taken : (old new : Row Frame 2048) (f : Frame) → items old ≡ items new ++ f ∷ [] → frames old ≡ f ∷ frames new
+taken old new f e = ap reverse e ∙ reverse-append (items new) (f ∷ [])
+
+pub put_on : (old new : Row Frame 2048) (f : Frame) → items new ≡ items old ++ f ∷ [] → frames new ≡ f ∷ frames old
+put_on old new f e = ap reverse e ∙ reverse-append (items old) (f ∷ [])
+
+-- what `ok` and `?` say of a push
+none_some : {X : Type 0} {x : X} → None ≡ Some x → ⊥
+none_some e = let z : ◌≡◌ {A = ℕ} 0 1 = cc in omega arith
+
+pub was_ok : {E : Type 0} (P Q : Type 0) (r : Result (Unit {0}) E) (o : Option (Unit {0})) (u : Unit {0}) → o ≡ result_ok r → o ≡ Some u → MatchResult r (λ _. P) (λ _. Q) → P
+was_ok P Q (Ok v) o u e s h = h
+was_ok P Q (Err x) o u e s h = absurd (none_some (sym e ∙ s))
+
+-- a piece that there is
+pub turned : (ns : List (List ℕ)) (b : List Cell) (fs : List Frame) (text : List ℕ) (P : Row ℕ 16 → Type 0) (r : Option (Row ℕ 16)) → IsSomeAnd r P → ((p : Row ℕ 16) → P p → Wrote ns b fs (items p) text) → Turned ns b fs r text
+turned ns b fs text P None h wrote = absurd h
+turned ns b fs text P (Some p) h wrote = wrote p h
 
 -- what stands before argument k
 abbrev pub mark_at : ℕ → ℕ
@@ -28,201 +48,125 @@ pub mark_later : (k : ℕ) → (k ≡ 0 → ⊥) → mark_at k ≡ 44
 mark_later zero h = absurd (h refl)
 mark_later (suc k) h = refl
 
-module _ {S : Sig} {ns : List (List ℕ)} {b : List Cell} {st : List Frame} {d : ℕ} (walk : Walking S ns b st d) where
-  pos : 0 < d
-  pos = walk.some
+closing : (ns : List (List ℕ)) (k : ℕ) → 0 < k → onward ns k nil ≡ 41 ∷ []
+closing ns zero h = absurd (let z : ⊥ = omega arith in z)
+closing ns (suc k) h = refl
 
-  within : d ≤ length st
-  within = walk.within
+opening : (ns : List (List ℕ)) (k : ℕ) (t : Term) (ts : Terms) → onward ns k (t ▹ ts) ≡ mark_at k ∷ (written ns t ++ written_more ns ts)
+opening ns zero t ts = refl
+opening ns (suc k) t ts = refl
 
-  abbrev pub Under : List ℕ → Type 0
-  Under = Left ns b (reverse (take (d - 1) st))
-
-  abbrev pub Top : List ℕ → Type 0
-  Top text = Stacked ns b (get_or st (d - 1) blank) (d - 1) Under text
-
-  pub opened : (text : List ℕ) → Left ns b (reverse (take d st)) text → Top text
-  opened text left =
-      let s : Stacked ns b (get_or st (d - 1) blank) (length (reverse (take (d - 1) st))) Under text = subst (λ fs. Left ns b fs text) (peel st d blank pos within) left in
-      subst (λ k. Stacked ns b (get_or st (d - 1) blank) k Under text) (height st (d - 1) (omega arith)) s
-
-  pub top_counted : (get_or st (d - 1) blank).cell < length b
-  top_counted = let s = opened walk.text walk.left in omega (arith, s.falls)
-
-  pub small_variable : (x : ℕ) → get_or b (get_or st (d - 1) blank).cell (Var 0) ≡ Var x → x < 32
-  small_variable x e = subst (Fitting S (get_or st (d - 1) blank).cell) e (walk.rules.fitting (get_or st (d - 1) blank).cell top_counted)
-
-  pub var_turn : (text : List ℕ) (x : ℕ) → Top text → get_or b (get_or st (d - 1) blank).cell (Var 0) ≡ Var x → (rest : List ℕ) × Under rest × (text ≡ (88 ∷ decimal x) ++ rest)
-  var_turn text x s e = elim s.pending [
-    | inl p ↦ (s.rest, s.under, s.is ∙ ap (λ z. z ++ s.rest) (p.is ∙ ap (written ns) (open_var p.means e)))
-    | inr p ↦ absurd (clash e p.stands)
-  ]
-
-  module _ (f a : ℕ) (args : List ℕ) (e : get_or b (get_or st (d - 1) blank).cell (Var 0) ≡ App f a args) where
-    pub symbol_alone : (text : List ℕ) → Top text → (get_or st (d - 1) blank).next ≡ 0 → a ≡ 0 → (rest : List ℕ) × Under rest × (text ≡ get_or ns f [] ++ rest)
-    symbol_alone text s n z = elim s.pending [
-      | inl p ↦
-          let o = open_app p.means e in
-          let q = open_none o.means (ap (λ k. take k args) z) in
-          let w : s.front ≡ get_or ns f [] ++ [] = p.is ∙ ap (written ns) (o.is ∙ ap (app f) q) in
-          (s.rest, s.under, s.is ∙ ap (λ y. y ++ s.rest) w ∙ append_assoc (get_or ns f []) [] s.rest)
-      | inr p ↦ absurd (let h : ⊥ = omega (arith, p.counts) in h)
-    ]
-
-    begun : (g : Frame) (text : List ℕ) (k : ℕ) (ts : Terms) → g.cell ≡ (get_or st (d - 1) blank).cell → g.next ≡ k + 1 → g.cell < length b → 0 < a → k ≤ a
-        → MeansAll b (drop k (take a args)) ts → text ≡ onward ns k ts → Begun ns b g text
-    begun g text k ts same n l some most h is = record {
-      symbol = f;
-      arity = a;
-      args = args;
-      within = l;
-      stands = ap (λ c. get_or b c (Var 0)) same ∙ e;
-      some = some;
-      done = k;
-      counts = n;
-      most = most;
-      terms = ts;
-      means = h;
-      is = is;
+module _ {S : Sig} (ns : List (List ℕ)) (b : List Cell) (rules : Rules S b) (c : ℕ) (fs : List Frame) (text piece : List ℕ) where
+  -- the whole term of a cell
+  module _ (left : Left ns b (Whole c ∷ fs) text) where
+    pub whole_var : (x : ℕ) → get_or b c (Var 0) ≡ Var x → piece ≡ 88 ∷ decimal x → Wrote ns b fs piece text
+    whole_var x e is = record {
+      rest = left.rest;
+      left = left.under;
+      is = left.is ∙ ap (λ z. z ++ left.rest) (left.pending.2 ∙ ap (written ns) (open_var left.pending.1 e) ∙ sym is);
+      some = rw is (omega arith);
     }
 
-    pub symbol_first : (text : List ℕ) → Top text → (get_or st (d - 1) blank).next ≡ 0 → 0 < a
-        → (rest : List ℕ) × Left ns b (reverse (take d (set st (d - 1) record { cell = (get_or st (d - 1) blank).cell; next = 1 }))) rest × (text ≡ get_or ns f [] ++ rest)
-    symbol_first text s n some = elim s.pending [
-      | inl p ↦
-          let g : Frame = record { cell = (get_or st (d - 1) blank).cell; next = 1 } in
-          let o = open_app p.means e in
-          let w : s.front ≡ get_or ns f [] ++ written_args ns o.terms = p.is ∙ ap (written ns) o.is in
-          let l : g.cell < length b = omega (arith, s.falls) in
-          let left : Stacked ns b g (length (reverse (take (d - 1) st))) Under (written_args ns o.terms ++ s.rest) = record {
-            front = written_args ns o.terms;
-            rest = s.rest;
-            pending = inr (begun g _ 0 o.terms refl refl l some (omega arith) o.means refl);
-            falls = rw (height st (d - 1) (omega arith)) s.falls;
-            under = s.under;
-            is = refl;
-          } in (
-            written_args ns o.terms ++ s.rest,
-            subst (λ fs. Left ns b fs (written_args ns o.terms ++ s.rest)) (sym (replaced st d g pos within)) left,
-            s.is ∙ ap (λ y. y ++ s.rest) w ∙ append_assoc (get_or ns f []) (written_args ns o.terms) s.rest,
-          )
-      | inr p ↦ absurd (let h : ⊥ = omega (arith, p.counts) in h)
-    ]
-
-    -- a cell that is under way stands at the same symbol, with the same arguments
-    pub record Onward (text : List ℕ) : Type 0 where
-      pub terms : Terms
-      pub rest : List ℕ
-      pub done : ℕ
-      pub counts : (get_or st (d - 1) blank).next ≡ done + 1
-      pub most : done ≤ a
-      pub some : 0 < a
-      pub means : MeansAll b (drop done (take a args)) terms
-      pub under : Under rest
-      pub is : text ≡ onward ns done terms ++ rest
-
-    pub going_on : (text : List ℕ) → Top text → ((get_or st (d - 1) blank).next ≡ 0 → ⊥) → Onward text
-    going_on text s n = elim s.pending [
-      | inl p ↦ absurd (n p.none)
-      | inr p ↦
-          let st' = p.stands in
-          let q : p.arity ≡ a = cc in
-          let r : p.args ≡ args = cc in
+    module _ (f a : ℕ) (args : List ℕ) (e : get_or b c (Var 0) ≡ App f a args) (is : piece ≡ get_or ns f []) (some : 0 < length piece) where
+      pub whole_constant : a ≡ 0 → Wrote ns b fs piece text
+      whole_constant z =
+          let o = open_app left.pending.1 e in
+          let none = open_none o.means (ap (λ k. take k args) z) in
           record {
-            terms = p.terms;
-            rest = s.rest;
-            done = p.done;
-            counts = p.counts;
-            most = omega (arith, p.most, q);
-            some = omega (arith, p.some, q);
-            means = subst (λ is. MeansAll b (drop p.done is) p.terms) (ap₂ take q r) p.means;
-            under = s.under;
-            is = s.is ∙ ap (λ y. y ++ s.rest) p.is;
+            rest = left.rest;
+            left = left.under;
+            is = left.is ∙ ap (λ z. z ++ left.rest) (left.pending.2 ∙ ap (written ns) (o.is ∙ ap (app f) none) ∙ append-nil (get_or ns f []) ∙ sym is);
+            some = some;
           }
-    ]
 
-    closing : (k : ℕ) → 0 < k → onward ns k nil ≡ 41 ∷ []
-    closing zero h = absurd (let z : ⊥ = omega arith in z)
-    closing (suc k) h = refl
+      pub whole_symbol : (fs' : List Frame) → fs' ≡ Rest c 0 ∷ fs → 0 < a → Wrote ns b fs' piece text
+      whole_symbol fs' is-fs more =
+          let o = open_app left.pending.1 e in
+          let w : left.front ≡ piece ++ written_args ns o.terms = left.pending.2 ∙ ap (written ns) o.is ∙ ap (λ z. z ++ written_args ns o.terms) (sym is) in
+          record {
+            rest = written_args ns o.terms ++ left.rest;
+            left = subst (λ gs. Left ns b gs (written_args ns o.terms ++ left.rest)) (sym is-fs) record {
+              front = written_args ns o.terms;
+              rest = left.rest;
+              pending = record { symbol = f; arity = a; args = args; stands = e; some = more; most = omega arith; terms = o.terms; means = o.means; is = refl };
+              falls = left.falls;
+              under = left.under;
+              is = refl;
+            };
+            is = left.is ∙ ap (λ z. z ++ left.rest) w ∙ append_assoc piece (written_args ns o.terms) left.rest;
+            some = some;
+          }
 
-    opening : (k : ℕ) (t : Term) (ts : Terms) → onward ns k (t ▹ ts) ≡ mark_at k ∷ (written ns t ++ written_more ns ts)
-    opening zero t ts = refl
-    opening (suc k) t ts = refl
+  -- what is left of a cell's term
+  module _ (k : ℕ) (left : Left ns b (Rest c k ∷ fs) text) where
+    module _ (f a : ℕ) (args : List ℕ) (e : get_or b c (Var 0) ≡ App f a args) where
+      inside : c < length b
+      inside = omega (arith, left.falls)
 
-    pub standing : Node S (get_or st (d - 1) blank).cell f a args
-    standing = node S b walk.rules top_counted e
+      standing : Node S c f a args
+      standing = node S b rules inside e
 
-    pub push_room : (get_or st (d - 1) blank).next - 1 < a → d < length st
-    push_room h =
-        let k = (get_or st (d - 1) blank).next - 1 in
-        let s = opened walk.text walk.left in
-        omega (arith, s.falls, walk.deep, (standing.slots.each k (omega (arith, standing.few))).0 h)
+      size : length (take a args) ≡ a
+      size = length-take-le a args (omega (arith, standing.few, standing.slots.four))
 
-    abbrev parent : Frame
-    parent = record { cell = (get_or st (d - 1) blank).cell; next = (get_or st (d - 1) blank).next + 1 }
+      -- the same arguments as when it was begun
+      begun : (MeansAll b (drop k (take a args)) left.pending.terms) × (k ≤ a) × (0 < a)
+      begun =
+          let p = left.pending.stands in
+          let q : left.pending.arity ≡ a = cc in
+          let r : left.pending.args ≡ args = cc in
+          (subst (λ is. MeansAll b (drop k is) left.pending.terms) (ap₂ take q r) left.pending.means, omega (arith, left.pending.most, q), omega (arith, left.pending.some, q))
 
-    abbrev child : Frame
-    child = record { cell = get_or args ((get_or st (d - 1) blank).next - 1) 0; next = 0 }
+      pub rest_close : a ≤ k → piece ≡ 41 ∷ [] → Wrote ns b fs piece text
+      rest_close h is =
+          let none = open_none begun.0 (drop_all k (take a args) (omega (arith, size))) in
+          record {
+            rest = left.rest;
+            left = left.under;
+            is = left.is ∙ ap (λ z. z ++ left.rest) (left.pending.is ∙ ap (onward ns k) none ∙ closing ns k (omega (arith, begun.2)) ∙ sym is);
+            some = rw is (omega arith);
+          }
 
-    size : length (take a args) ≡ a
-    size = length-take-le a args (omega (arith, standing.few, standing.slots.four))
+      pub lower : k < a → get_or args k 0 < c
+      lower h = (standing.slots.each k (omega (arith, standing.few))).0 h
 
-    pub close_turn : (text : List ℕ) → Onward text → a ≤ (get_or st (d - 1) blank).next - 1 → (rest : List ℕ) × Under rest × (text ≡ (41 ∷ []) ++ rest)
-    close_turn text o h =
-        let none = open_none o.means (drop_all o.done (take a args) (omega (arith, size, o.counts, o.most))) in
-        (o.rest, o.under, o.is ∙ ap (λ y. y ++ o.rest) (ap (onward ns o.done) none ∙ closing o.done (omega (arith, o.some, o.counts))))
+      pub rest_argument : (fs' : List Frame) → fs' ≡ Whole (get_or args k 0) ∷ Rest c (k + 1) ∷ fs → k < a → piece ≡ mark_at k ∷ [] → Wrote ns b fs' piece text
+      rest_argument fs' is-fs h is =
+          let first : get_or (take a args) k 0 ≡ get_or args k 0 = get_or-take a args k 0 h in
+          let cut : drop k (take a args) ≡ get_or args k 0 ∷ drop (k + 1) (take a args) =
+          drop_more (take a args) k 0 (omega (arith, size)) ∙ ap (λ v. v ∷ drop (k + 1) (take a args)) first in
+          let q = open_args begun.0 cut in
+          let more : onward ns (k + 1) q.terms ≡ written_more ns q.terms = ap (λ m. onward ns m q.terms) (add-one k) in
+          let under : Left ns b (Rest c (k + 1) ∷ fs) (written_more ns q.terms ++ left.rest) = record {
+            front = written_more ns q.terms;
+            rest = left.rest;
+            pending = record { symbol = f; arity = a; args = args; stands = e; some = begun.2; most = omega arith; terms = q.terms; means = q.more; is = sym more };
+            falls = left.falls;
+            under = left.under;
+            is = refl;
+          } in
+          record {
+            rest = written ns q.term ++ (written_more ns q.terms ++ left.rest);
+            left = subst (λ gs. Left ns b gs (written ns q.term ++ (written_more ns q.terms ++ left.rest))) (sym is-fs) record {
+              front = written ns q.term;
+              rest = written_more ns q.terms ++ left.rest;
+              pending = (q.term, q.first, refl);
+              falls = omega (arith, left.falls, lower h);
+              under = under;
+              is = refl;
+            };
+            is = left.is ∙ ap (λ z. z ++ left.rest) (left.pending.is ∙ ap (onward ns k) q.splits ∙ opening ns k q.term q.terms)
+                ∙ ap (λ z. mark_at k ∷ z) (append_assoc (written ns q.term) (written_more ns q.terms) left.rest)
+                ∙ ap (λ z. z ++ (written ns q.term ++ (written_more ns q.terms ++ left.rest))) (sym is);
+            some = rw is (omega arith);
+          }
 
-    pub argument_turn : (text : List ℕ) → Top text → Onward text → (get_or st (d - 1) blank).next - 1 < a
-        → (rest : List ℕ) × Left ns b (reverse (take (d + 1) (set (set st (d - 1) parent) d child))) rest × (text ≡ (mark_at ((get_or st (d - 1) blank).next - 1) ∷ []) ++ rest)
-    argument_turn text s o h =
-        let n = standing in
-        let k = o.done in
-        let at : k ≡ (get_or st (d - 1) blank).next - 1 = omega (arith, o.counts) in
-        let ka : k < a = omega (arith, at) in
-        let k4 : k < 4 = omega (arith, n.few) in
-        let first : get_or (take a args) k 0 ≡ get_or args k 0 = get_or-take a args k 0 ka in
-        let cut : drop k (take a args) ≡ get_or args k 0 ∷ drop (k + 1) (take a args) =
-        drop_more (take a args) k 0 (omega (arith, size)) ∙ ap (λ v. v ∷ drop (k + 1) (take a args)) first in
-        let q = open_args o.means cut in
-        let lower : get_or args k 0 < (get_or st (d - 1) blank).cell = (n.slots.each k k4).0 ka in
-        let is-child : get_or args k 0 ≡ child.cell = ap (λ m. get_or args m 0) at in
-        let l : parent.cell < length b = omega (arith, s.falls) in
-        let rest = o.rest in
-        let under : Left ns b (reverse (take d (set st (d - 1) parent))) (written_more ns q.terms ++ rest) =
-        subst (λ fs. Left ns b fs (written_more ns q.terms ++ rest)) (sym (replaced st d parent pos within)) record {
-          front = written_more ns q.terms;
-          rest = rest;
-          pending = inr (begun parent _ (k + 1) q.terms refl (omega (arith, at, o.counts)) l o.some (omega arith) q.more (sym (ap (λ m. onward ns m q.terms) (add-one k))));
-          falls = rw (height st (d - 1) (omega arith)) s.falls;
-          under = o.under;
-          is = refl;
-        } in
-        let size-set : length (set st (d - 1) parent) ≡ length st = length-set st (d - 1) parent in
-        let room : d < length (set st (d - 1) parent) = omega (arith, s.falls, size-set, lower, walk.deep) in
-        let tall : length (reverse (take d (set st (d - 1) parent))) ≡ d = height (set st (d - 1) parent) d (omega arith) in
-        let left : Left ns b (reverse (take (d + 1) (set (set st (d - 1) parent) d child))) (written ns q.term ++ (written_more ns q.terms ++ rest)) =
-        subst (λ fs. Left ns b fs (written ns q.term ++ (written_more ns q.terms ++ rest))) (sym (pushed (set st (d - 1) parent) d child room)) record {
-          front = written ns q.term;
-          rest = written_more ns q.terms ++ rest;
-          pending = inl record { none = refl; term = q.term; means = subst (λ i. Means b i q.term) is-child q.first; is = refl };
-          falls = rw tall (omega (arith, s.falls, lower, is-child));
-          under = under;
-          is = refl;
-        } in (
-          written ns q.term ++ (written_more ns q.terms ++ rest),
-          left,
-          o.is ∙ ap (λ y. y ++ rest) (ap (onward ns k) q.splits ∙ opening k q.term q.terms)
-              ∙ ap₂ ◌∷◌ (ap mark_at at) (append_assoc (written ns q.term) (written_more ns q.terms) rest),
-        )
-
--- the walk starts with the one cell
-pub start : (ns : List (List ℕ)) (b : List Cell) (st : List Frame) (c : ℕ) (t : Term) → Means b c t → c < length b → 0 < length st
-    → Left ns b (reverse (take 1 (set st 0 record { cell = c; next = 0 }))) (written ns t)
-start ns b [] c t h l some = absurd (let z : ⊥ = omega arith in z)
-start ns b (f ∷ fs) c t h l some = record {
+-- the walk begins with the one cell
+pub start : (ns : List (List ℕ)) (b : List Cell) (c : ℕ) (t : Term) → Means b c t → c < length b → Left ns b (Whole c ∷ []) (written ns t)
+start ns b c t h l = record {
   front = written ns t;
   rest = [];
-  pending = inl record { none = refl; term = t; means = h; is = refl };
+  pending = (t, h, refl);
   falls = omega arith;
   under = refl;
   is = sym (append-nil (written ns t));

@@ -1,49 +1,47 @@
--- What is still to be written of the cells on a walk's stack; b are the bank's cells, ns the symbols' names.
-use Rattle.std.specs.Prelude.{◌≡◌, ℕ, zero, suc, ◌+◌, ◌<◌, ◌≤◌, ◌⊎◌, List, [], ◌∷◌, ◌++◌, reverse, length, take, drop, slice_index_or}
+-- What is still to be written of the frames of a walk; b are the bank's cells, ns the symbols' names.
+use Rattle.std.specs.Prelude.{◌≡◌, ℕ, zero, suc, ◌+◌, ◌<◌, ◌≤◌, List, [], ◌∷◌, ◌++◌, reverse, length, take, drop, Some, None, Option, slice_index_or}
 use Rattle.terms.specs.Term.{Term, Terms}
-use Rattle.terms.specs.Sig.{Sig}
 use Rattle.signature.specs.Written.{written, written_args, written_more}
 use Rattle.bank.specs.declared.cell.Cell.{Cell}
 use Rattle.bank.specs.declared.cell.Cell.TheVariants.{Var, App}
-use Rattle.bank.specs.Rules.{Rules}
 use Rattle.bank.specs.Means.{Means, MeansAll}
-use Rattle.writer.specs.Pieces.{shown}
+use Rattle.row.specs.Items.{items}
+use Rattle.row.specs.declared.Row.{Row}
 use Rattle.writer.specs.declared.walk.Frame.{Frame}
-use Rattle.writer.specs.declared.walk.Turn.{Turn}
-
--- a cell of which nothing is written yet
-pub record Fresh (ns : List (List ℕ)) (b : List Cell) (f : Frame) (text : List ℕ) : Type 0 where
-  pub none : f.next ≡ 0
-  pub term : Term
-  pub means : Means b f.cell term
-  pub is : text ≡ written ns term
+use Rattle.writer.specs.declared.walk.Frame.TheVariants.{Whole, Rest}
 
 -- the arguments that follow k written ones
 abbrev pub onward : List (List ℕ) → ℕ → Terms → List ℕ
 onward ns zero ts = written_args ns ts
 onward ns (suc k) ts = written_more ns ts
 
--- a cell of which the symbol and k arguments are written
-pub record Begun (ns : List (List ℕ)) (b : List Cell) (f : Frame) (text : List ℕ) : Type 0 where
+-- the cell c, of which the symbol and `done` arguments are written
+pub record Begun (ns : List (List ℕ)) (b : List Cell) (c done : ℕ) (text : List ℕ) : Type 0 where
   pub symbol : ℕ
   pub arity : ℕ
   pub args : List ℕ
-  pub within : f.cell < length b
-  pub stands : slice_index_or b f.cell (Var 0) ≡ App symbol arity args
+  pub stands : slice_index_or b c (Var 0) ≡ App symbol arity args
   pub some : 0 < arity
-  pub done : ℕ
-  pub counts : f.next ≡ done + 1
   pub most : done ≤ arity
   pub terms : Terms
   pub means : MeansAll b (drop done (take arity args)) terms
   pub is : text ≡ onward ns done terms
 
--- the top frame's text comes first; cells fall towards the top, which bounds the stack
+abbrev pub cell_of : Frame → ℕ
+cell_of (Whole c) = c
+cell_of (Rest c k) = c
+
+-- what is still to be written of a frame
+abbrev pub Pending : List (List ℕ) → List Cell → Frame → List ℕ → Type 0
+Pending ns b (Whole c) text = (t : Term) × Means b c t × (text ≡ written ns t)
+Pending ns b (Rest c k) text = Begun ns b c k text
+
+-- the last frame's text comes first; cells fall towards it, which bounds the row
 pub record Stacked (ns : List (List ℕ)) (b : List Cell) (f : Frame) (below : ℕ) (Under : List ℕ → Type 0) (text : List ℕ) : Type 0 where
   pub front : List ℕ
   pub rest : List ℕ
-  pub pending : Fresh ns b f front ⊎ Begun ns b f front
-  pub falls : f.cell + below < length b
+  pub pending : Pending ns b f front
+  pub falls : cell_of f + below < length b
   pub under : Under rest
   pub is : text ≡ front ++ rest
 
@@ -51,19 +49,18 @@ abbrev pub Left : List (List ℕ) → List Cell → List Frame → List ℕ → 
 Left ns b [] text = text ≡ []
 Left ns b (f ∷ fs) text = Stacked ns b f (length fs) (Left ns b fs) text
 
--- a walk under way: some text is still to be written, and the stack has room for every cell
-pub record Walking (S : Sig) (ns : List (List ℕ)) (b : List Cell) (stack : List Frame) (depth : ℕ) : Type 0 where
-  pub rules : Rules S b
-  pub some : 0 < depth
-  pub within : depth ≤ length stack
-  pub deep : length b ≤ length stack
-  pub text : List ℕ
-  pub left : Left ns b (reverse (take depth stack)) text
+-- the frames, the last one first
+abbrev pub frames : Row Frame 2048 → List Frame
+frames r = reverse (items r)
 
--- a turn writes a piece of the text and leaves the rest
-pub record Turned (ns : List (List ℕ)) (b : List Cell) (stack : List Frame) (turn : Turn) (text : List ℕ) : Type 0 where
+-- a turn that writes a piece of the text, and leaves the rest
+pub record Wrote (ns : List (List ℕ)) (b : List Cell) (fs : List Frame) (piece text : List ℕ) : Type 0 where
   pub rest : List ℕ
-  pub left : Left ns b (reverse (take turn.depth stack)) rest
-  pub within : turn.depth ≤ length stack
-  pub is : text ≡ shown turn.piece ++ rest
-  pub some : 0 < length (shown turn.piece)
+  pub left : Left ns b fs rest
+  pub is : text ≡ piece ++ rest
+  pub some : 0 < length piece
+
+-- a turn writes a piece, or all is written
+abbrev pub Turned : List (List ℕ) → List Cell → List Frame → Option (Row ℕ 16) → List ℕ → Type 0
+Turned ns b fs None text = text ≡ []
+Turned ns b fs (Some p) text = Wrote ns b fs (items p) text

@@ -1,7 +1,7 @@
 // Writes the term of a bank's cell as text into the caller's buffer.
 #![tactic(auto)]
 
-ghost use Rattle.std.specs.Prelude.{◌≡◌, ◌+◌, ◌<◌, ◌≤◌, ◌++◌, length, take, drop, Decides};
+ghost use Rattle.std.specs.Prelude.{◌≡◌, ◌+◌, ◌<◌, ◌≤◌, ◌++◌, length, take, IfSome, MatchOption};
 ghost use Rattle.terms.specs.Term.{Term};
 ghost use Rattle.signature.specs.Signatures.{sig_of, names_of};
 ghost use Rattle.signature.specs.Written.{written};
@@ -13,6 +13,7 @@ use bank::cell::Cell;
 use bank::rules::keeps_rules;
 use lent_list::Count;
 use refusal::Refusal;
+use row::Row;
 use signature::signature::Signature;
 use walk::{Frame, advance};
 
@@ -21,7 +22,8 @@ mod piece;
 mod tests;
 mod walk;
 
-// A shared term can be exponentially long as text: whether it fits is found out by a walk that ends where the buffer would.
+// A shared term can be exponentially long as text: the walk ends where the buffer would. What does not fit leaves the buffer as it
+// was, so the text is written elsewhere first.
 pub fn write_term(
     signature: &Signature,
     cells: &[Cell],
@@ -38,68 +40,43 @@ pub fn write_term(
     if cell as usize >= count.len {
         return Err(Refusal::BankRules);
     }
-    let counted = &cells[..count.len];
-    let mut stack = [Frame { cell, next: 0 }; 2048];
-    if !fits(signature, counted, cell, buffer.len(), &mut stack) {
+    let mut text = [0; 65536];
+    let text = &mut text[..buffer.len()];
+    let Some(len) = write(signature, &cells[..count.len], cell, text) else {
         return Err(Refusal::BufferTooShort);
-    }
-    Ok(write(signature, counted, cell, buffer, &mut stack))
+    };
+    buffer[..len].copy_from_slice(&text[..len]);
+    Ok(len)
 }
 
-// Whether the cell's text has at most `limit` bytes.
-fn fits(signature: &Signature, cells: &[Cell], cell: u16, limit: usize, stack: &mut [Frame]) -> bool
+// How many bytes the cell's text has, which stand in front of the buffer, if they all fit.
+fn write(signature: &Signature, cells: &[Cell], cell: u16, buffer: &mut [u8]) -> Option<usize>
     requires rules { Rules (sig_of signature.now) cells.now }
     requires counted { cell < length cells.now }
-    requires deep { length cells.now ≤ length stack.old }
-    ensures { (t : Term) → Means cells.now cell t → Decides result (length (written (names_of signature.now) t) ≤ limit) }
+    requires deep { length cells.now ≤ 2048 }
+    requires short { length buffer.old ≤ 65536 }
+    ensures size { length buffer.new ≡ length buffer.old }
+    ensures within { IfSome result (λ r. r ≤ length buffer.old) }
+    ensures text { (t : Term) → Means cells.now cell t → MatchOption result (length buffer.old < length (written (names_of signature.now) t)) (λ r. take r buffer.new ≡ written (names_of signature.now) t) }
 {
-    stack[0] = Frame { cell, next: 0 };
-    let mut depth = 1;
+    let mut stack = Row::from_slice(&[Frame::Whole(cell)], Frame::Whole(cell))?;
     let mut len = 0;
-    while depth > 0 {
-        let turned = advance(signature, cells, stack, depth);
-        let more = turned.piece.len();
-        if more > limit - len {
-            return false;
-        }
-        len += more;
-        depth = turned.depth;
+    while let Some(piece) = advance(signature, cells, &mut stack) {
+        len = put(buffer, len, piece.as_slice())?;
     }
-    true
+    Some(len)
 }
 
-fn write(
-    signature: &Signature,
-    cells: &[Cell],
-    cell: u16,
-    buffer: &mut [u8],
-    stack: &mut [Frame],
-) -> usize
-    requires rules { Rules (sig_of signature.now) cells.now }
-    requires counted { cell < length cells.now }
-    requires deep { length cells.now ≤ length stack.old }
-    requires room { (t : Term) → Means cells.now cell t → length (written (names_of signature.now) t) ≤ length buffer.old }
-    ensures within { result ≤ length buffer.old }
-    ensures front { (t : Term) → Means cells.now cell t → take result buffer.new ≡ written (names_of signature.now) t }
-    ensures rest { drop result buffer.new ≡ drop result buffer.old }
+// Where the bytes end in the buffer, if they fit behind the first `at`.
+fn put(buffer: &mut [u8], at: usize, bytes: &[u8]) -> Option<usize>
+    requires { at ≤ length buffer.old }
+    ensures size { length buffer.new ≡ length buffer.old }
+    ensures does { MatchOption result (length buffer.old < at + length bytes.now) (λ end. (end ≡ at + length bytes.now) × (end ≤ length buffer.old) × (take end buffer.new ≡ take at buffer.old ++ bytes.now)) }
 {
-    stack[0] = Frame { cell, next: 0 };
-    let mut depth = 1;
-    let mut len = 0;
-    while depth > 0 {
-        let turned = advance(signature, cells, stack, depth);
-        let bytes = turned.piece.bytes();
-        put(buffer, len, bytes);
-        len += bytes.len();
-        depth = turned.depth;
+    let end = at + bytes.len();
+    if end > buffer.len() {
+        return None;
     }
-    len
-}
-
-fn put(buffer: &mut [u8], at: usize, bytes: &[u8])
-    requires { at + length bytes.now ≤ length buffer.old }
-    ensures front { take (at + length bytes.now) buffer.new ≡ take at buffer.old ++ bytes.now }
-    ensures past { drop (at + length bytes.now) buffer.new ≡ drop (at + length bytes.now) buffer.old }
-{
-    buffer[at..at + bytes.len()].copy_from_slice(bytes);
+    buffer[at..end].copy_from_slice(bytes);
+    Some(end)
 }

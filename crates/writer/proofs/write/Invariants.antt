@@ -1,10 +1,19 @@
-use Rattle.std.proofs.Common.{◌-◌, length}
+use Rattle.std.proofs.Common.{◌≡◌, ◌-◌, ◌≤◌, ◌++◌, ℕ, List, length, take}
+use Rattle.terms.specs.Term.{Term}
 use Rattle.signature.specs.Signatures.{names_of}
-use Rattle.writer.proofs.Progress.{Filled}
+use Rattle.signature.specs.Written.{written}
+use Rattle.bank.specs.Means.{Means}
+use Rattle.writer.specs.Walks.{Left, frames}
 use Rattle.writer.proofs.write.Given as goal
 
-abbrev pub invariant-loop-depth : goal.invariant-loop-depth
-invariant-loop-depth l = Filled (names_of l.signature) l.cells l.cell l.stack l.depth l.len l.initial.buffer l.buffer
+-- what is written and what is left are the text of the cell's term
+abbrev pub invariant-loop-piece : goal.invariant-loop-piece
+invariant-loop-piece l =
+    (rest : List ℕ)
+    × Left (names_of l.signature) l.cells (frames l.stack) rest
+    × (l.len ≤ length l.buffer)
+    × (length l.buffer ≡ length l.initial.buffer)
+    × ((t : Term) → Means l.cells l.cell t → take l.len l.buffer ++ rest ≡ written (names_of l.signature) t)
 
-abbrev pub decreases-loop-depth : goal.decreases-loop-depth
-decreases-loop-depth l = length l.initial.buffer - l.len
+abbrev pub decreases-loop-piece : goal.decreases-loop-piece
+decreases-loop-piece l = length l.buffer - l.len
