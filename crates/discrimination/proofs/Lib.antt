@@ -1,4 +1,3 @@
-mod Reading
 mod Noting
 mod Spelling
 mod Parts

@@ -11,9 +11,8 @@ use Rattle.trie.specs.declared.trie.Trie.{Trie}
 use Rattle.trie.specs.Trees.{nodes_in, fits_pattern, are_patterns}
 use Rattle.trie.specs.Contents.{tree_of, strings_of}
 use Rattle.trie.proofs.Holding as holding
-use Rattle.discrimination.specs.declared.pending.Pending.{Pending}
 use Rattle.discrimination.specs.declared.agenda.Frame.{Frame}
-use Rattle.discrimination.specs.Cells.{scanned, cells_of}
+use Rattle.discrimination.specs.Cells.{Pending, scanned, cells_of}
 use Rattle.discrimination.specs.Frames.{laid, Spells, Part, Ready, total}
 use Rattle.discrimination.proofs.Noting.{room_for}
 use Rattle.discrimination.proofs.Turning.{ready_weaker, laid_ready, laid_todo}
@@ -44,8 +43,8 @@ module _ (T : Trie) where
       let w = holding.whole T in
       record { held = w.kept.held; within = omega (arith, w.kept.full, w.kept.within); trim = w.trim; rows = pattern_rows (strings_of T) w.patterns }
 
-  module _ (p : Pending) (one : p.len ≡ 1) where
-    whole_for : Part T.nodes T.marks.root (tree_of T) 32 p.len
+  module _ (p : Pending) (one : length (cells_of p) ≡ 1) where
+    whole_for : Part T.nodes T.marks.root (tree_of T) 32 (length (cells_of p))
     whole_for = subst (Part T.nodes T.marks.root (tree_of T) 32) (sym one) whole
 
     pub start_ready : (fs : List Frame) → fs ≡ laid T.marks.root p ++ [] → Ready T.nodes 0 fs

@@ -1,17 +1,14 @@
 -- One turn of the walk.
-use Rattle.std.proofs.Common.{◌≡◌, ℕ, suc, ◌+◌, ◌-◌, ◌<◌, ◌≤◌, false, List, [], ◌∷◌, ◌++◌, reverse, length, get_or, take, Some, None, Option, sym, refl, ap, ◌∙◌, subst, ap₂, append_assoc, arith, length-append}
-use Rattle.std.proofs.lemmas.List.{take_more, reverse-append}
-use Rattle.lent_list.proofs.Stacks.{height}
+use Rattle.std.proofs.Common.{◌≡◌, ℕ, suc, ◌+◌, ◌-◌, ◌<◌, ◌≤◌, false, List, [], ◌∷◌, ◌++◌, length, get_or, take, Some, None, Option, sym, refl, ap, ◌∙◌, subst, ap₂, append_assoc, arith, length-append}
 use Rattle.bank.specs.declared.cell.Cell.{Cell}
 use Rattle.trie.specs.declared.branch.Label.{Label}
 use Rattle.trie.specs.declared.branch.Label.TheVariants.{Star, Symbol, Number}
 use Rattle.trie.specs.declared.branch.Branch.{Branch}
 use Rattle.trie.specs.Trees.{Tree, nil, node, blank, places, is_number}
 use Rattle.trie.specs.Pools.{Held}
-use Rattle.discrimination.specs.declared.pending.Pending.{Pending}
 use Rattle.discrimination.specs.declared.agenda.Frame.{Frame}
-use Rattle.discrimination.specs.Cells.{after_cells, ended_cells, scanned, cells_of, wants, Room, Rest}
-use Rattle.discrimination.specs.Frames.{frames, laid, tree_at, Part, Ready, todo, weight, total, Turned, Noted}
+use Rattle.discrimination.specs.Cells.{Pending, after_cells, ended_cells, scanned, cells_of, wants, Room, Rest}
+use Rattle.discrimination.specs.Frames.{laid, tree_at, Part, Ready, todo, weight, total, Turned, Noted}
 use Rattle.discrimination.proofs.Noting.{take_twice}
 use Rattle.discrimination.proofs.Spelling.{none_some}
 use Rattle.discrimination.proofs.Parts.{spelled_held, right_part, down_part, down_deeper, label_room, Top, top_of}
@@ -33,20 +30,20 @@ regroup a b c d = simp append_assoc
 
 -- a part of the tree comes on top
 module _ (ns : List Branch) {T : Tree} {m : ℕ} where
-  pub laid_ready : (o : Option ℕ) (q : Pending) (fs : List Frame) → Part ns o T m q.len → Ready ns (suc m) fs → Ready ns m (laid o q ++ fs)
+  pub laid_ready : (o : Option ℕ) (q : Pending) (fs : List Frame) → Part ns o T m (length (cells_of q)) → Ready ns (suc m) fs → Ready ns m (laid o q ++ fs)
   laid_ready None q fs p h = ready_weaker ns m (suc m) fs (omega arith) h
-  laid_ready (Some v) q fs p h = (m, omega arith, subst (λ T. Part ns (Some v) T m q.len) (sym (spelled_held ns (Some v) T m q.len p)) p, h)
+  laid_ready (Some v) q fs p h = (m, omega arith, subst (λ T. Part ns (Some v) T m (length (cells_of q))) (sym (spelled_held ns (Some v) T m (length (cells_of q)) p)) p, h)
 
-  nothing : (q : Pending) → Part ns None T m q.len → T ≡ nil
+  nothing : (q : Pending) → Part ns None T m (length (cells_of q)) → T ≡ nil
   nothing q p = empty ns T p.held
 
-  pub laid_todo : (b : List Cell) (o : Option ℕ) (q : Pending) (fs : List Frame) → Part ns o T m q.len → todo b ns (laid o q ++ fs) ≡ scanned b T (cells_of q) ++ todo b ns fs
+  pub laid_todo : (b : List Cell) (o : Option ℕ) (q : Pending) (fs : List Frame) → Part ns o T m (length (cells_of q)) → todo b ns (laid o q ++ fs) ≡ scanned b T (cells_of q) ++ todo b ns fs
   laid_todo b None q fs p = sym (ap (λ T. scanned b T (cells_of q) ++ todo b ns fs) (nothing q p))
-  laid_todo b (Some v) q fs p = ap (λ T. scanned b T (cells_of q) ++ todo b ns fs) (spelled_held ns (Some v) T m q.len p)
+  laid_todo b (Some v) q fs p = ap (λ T. scanned b T (cells_of q) ++ todo b ns fs) (spelled_held ns (Some v) T m (length (cells_of q)) p)
 
-  pub laid_weight : (o : Option ℕ) (q : Pending) (fs : List Frame) → Part ns o T m q.len → weight ns (laid o q ++ fs) ≡ length (places T) + weight ns fs
+  pub laid_weight : (o : Option ℕ) (q : Pending) (fs : List Frame) → Part ns o T m (length (cells_of q)) → weight ns (laid o q ++ fs) ≡ length (places T) + weight ns fs
   laid_weight None q fs p = let z = ap (λ T. length (places T)) (nothing q p) in omega arith
-  laid_weight (Some v) q fs p = ap (λ T. length (places T) + weight ns fs) (spelled_held ns (Some v) T m q.len p)
+  laid_weight (Some v) q fs p = ap (λ T. length (places T) + weight ns fs) (spelled_held ns (Some v) T m (length (cells_of q)) p)
 
 -- a label that the cells fit is no number
 fitting : (b : List Cell) (l : Label) (is js : List ℕ) → after_cells b l is ≡ Some js → is_number l ≡ false
@@ -75,8 +72,8 @@ module _ (b : List Cell) (ns : List Branch) (f : Frame) (fs : List Frame) (h : R
   abbrev pub hs : Pending → List Frame
   hs q = laid at.down q ++ gs
 
-  top : Top ns f.place (tree_at ns f) h.0 f.pending.len
-  top = top_of ns f.place (tree_at ns f) h.0 f.pending.len h.2
+  top : Top ns f.place (tree_at ns f) h.0 (length (cells_of f.pending))
+  top = top_of ns f.place (tree_at ns f) h.0 (length (cells_of f.pending)) h.2
 
   few : length fs + suc h.0 ≤ 33
   few = ready_length ns (suc h.0) fs h.3
@@ -87,7 +84,7 @@ module _ (b : List Cell) (ns : List Branch) (f : Frame) (fs : List Frame) (h : R
   pub right_room : length fs < 33
   right_room = omega (arith, few)
 
-  pub after_room : Room at.label f.pending.len
+  pub after_room : Room at.label (length (cells_of f.pending))
   after_room = label_room at.label top.part (omega (arith, few))
 
   right_ready : Ready ns h.0 gs
@@ -118,11 +115,11 @@ module _ (b : List Cell) (ns : List Branch) (f : Frame) (fs : List Frame) (h : R
       ∙ regroup (ended_cells at.label cells) [] (scanned b top.right cells) (todo b ns fs)
       ∙ ap (λ xs. ended_cells at.label cells ++ xs) (sym right_todo)
 
-  module _ (q : Pending) (e : after_cells b at.label cells ≡ Some (cells_of q)) (w : q.len ≡ wants at.label f.pending.len) where
+  module _ (q : Pending) (e : after_cells b at.label cells ≡ Some (cells_of q)) (w : (length (cells_of q)) ≡ wants at.label (length (cells_of f.pending))) where
     plain : is_number at.label ≡ false
     plain = fitting b at.label cells (cells_of q) e
 
-    down : Part ns at.down top.down (h.0 - 1) q.len
+    down : Part ns at.down top.down (h.0 - 1) (length (cells_of q))
     down = subst (Part ns at.down top.down (h.0 - 1)) (sym w) (down_part top.part plain)
 
     pub down_fits : length gs < 33
@@ -154,62 +151,45 @@ same_total b ns fs hs l is ys n zs m size noted e =
     ∙ take_twice (length ys) (take n ys ++ end) (todo b ns hs)
     ∙ ap (take (length ys)) (append_assoc (take n ys) end (todo b ns hs) ∙ ap (λ xs. take n ys ++ xs) (sym e))
 
-module _ (b : List Cell) (ns : List Branch) (agenda : List Frame) (top : ℕ) (f : Frame) (B : Branch)
-    (room : length agenda ≡ 33) (lt : top < 33) (is : f ≡ get_or agenda top f) (h : Ready ns 0 (frames agenda (top + 1))) (e : B ≡ get_or ns f.place blank) where
-  abbrev under : List Frame
-  under = frames agenda top
-
-  opened : frames agenda (top + 1) ≡ f ∷ under
-  opened =
-      ap reverse (take_more agenda top f (omega arith)) ∙ reverse-append (take top agenda) (get_or agenda top f ∷ []) ∙ ap (λ g. g ∷ under) (sym is)
-
-  ready : Ready ns 0 (f ∷ under)
-  ready = subst (Ready ns 0) opened h
-
+-- the frame f is taken from the agenda, where the frames `under` stay
+module _ (b : List Cell) (ns : List Branch) (f : Frame) (under : List Frame) (B : Branch) (ready : Ready ns 0 (f ∷ under)) (e : B ≡ get_or ns f.place blank) where
   pub holds_place : f.place < length ns
   holds_place = place_below b ns f under ready
 
-  pub label_fits : Room B.label f.pending.len
-  label_fits = subst (λ B. Room B.label f.pending.len) (sym e) (after_room b ns f under ready)
+  pub label_fits : Room B.label (length (cells_of f.pending))
+  label_fits = subst (λ B. Room B.label (length (cells_of f.pending))) (sym e) (after_room b ns f under ready)
 
-  module _ (agenda' : List Frame) (depth : ℕ) (within : depth ≤ length agenda') (size : length agenda' ≡ length agenda) (laid-right : frames agenda' depth ≡ laid B.right f.pending ++ under) where
-    right : frames agenda' depth ≡ gs b ns f under ready
+  pub right_fits : length under < 33
+  right_fits = right_room b ns f under ready
+
+  module _ (gs' : List Frame) (laid-right : gs' ≡ laid B.right f.pending ++ under) where
+    right : gs' ≡ gs b ns f under ready
     right = laid-right ∙ ap (λ B. laid B.right f.pending ++ under) e
 
     module _ (ys : List ℕ) (n : ℕ) (zs : List ℕ) (m : ℕ) (kept : length zs ≡ length ys) (noted : Noted B.label (cells_of f.pending) ys n zs m) where
       note : Noted (get_or ns f.place blank).label (cells_of f.pending) ys n zs m
       note = subst (λ B. Noted B.label (cells_of f.pending) ys n zs m) e noted
 
-      turned : (hs : List Frame) (d : ℕ) → Ready ns 0 hs → weight ns hs < weight ns (f ∷ under) → d ≤ 33
+      turned : (hs : List Frame) → Ready ns 0 hs → weight ns hs < weight ns (f ∷ under)
           → todo b ns (f ∷ under) ≡ ended_cells (get_or ns f.place blank).label (cells_of f.pending) ++ todo b ns hs
-          → Turned b ns (frames agenda (top + 1)) ys n hs zs m d
-      turned hs d r w le t = record {
-        ready = r;
-        falls = subst (λ fs. weight ns hs < weight ns fs) (sym opened) w;
-        same = same_total b ns (f ∷ under) hs _ (cells_of f.pending) ys n zs m kept note t ∙ ap (λ fs. total b ns fs ys n) (sym opened);
-        counted = note.1;
-        within = le;
-      }
+          → Turned b ns (f ∷ under) ys n hs zs m
+      turned hs r w t = record { ready = r; falls = w; same = same_total b ns (f ∷ under) hs _ (cells_of f.pending) ys n zs m kept note t; counted = note.1 }
 
-      pub turned_none : Rest b B.label f.pending None → Turned b ns (frames agenda (top + 1)) ys n (frames agenda' depth) zs m depth
+      pub turned_none : Rest b B.label f.pending None → Turned b ns (f ∷ under) ys n gs' zs m
       turned_none none =
           let none' = subst (λ B. Rest b B.label f.pending None) e none in
-          subst (λ hs. Turned b ns (frames agenda (top + 1)) ys n hs zs m depth) (sym right)
-          (turned (gs b ns f under ready) depth (stays_ready b ns f under ready) (stays_falls b ns f under ready) (omega arith) (stays_todo b ns f under ready none'))
+          subst (λ hs. Turned b ns (f ∷ under) ys n hs zs m) (sym right)
+          (turned (gs b ns f under ready) (stays_ready b ns f under ready) (stays_falls b ns f under ready) (stays_todo b ns f under ready none'))
 
       module _ (q : Pending) (rest : Rest b B.label f.pending (Some q)) where
         rest' : Rest b (get_or ns f.place blank).label f.pending (Some q)
         rest' = subst (λ B. Rest b B.label f.pending (Some q)) e rest
 
-        pub down_room : depth < length agenda'
-        down_room =
-            let tall : length (frames agenda' depth) ≡ depth = height agenda' depth within in
-            omega (arith, down_fits b ns f under ready q rest'.0 rest'.1, ap length right)
+        pub down_room : length gs' < 33
+        down_room = omega (arith, down_fits b ns f under ready q rest'.0 rest'.1, ap length right)
 
-        pub turned_some : (agenda'' : List Frame) (d : ℕ) → d ≤ length agenda'' → length agenda'' ≡ length agenda'
-            → frames agenda'' d ≡ laid B.down q ++ frames agenda' depth → Turned b ns (frames agenda (top + 1)) ys n (frames agenda'' d) zs m d
-        turned_some agenda'' d le same laid-down =
-            let is-hs : frames agenda'' d ≡ hs b ns f under ready q =
-            laid-down ∙ ap (λ xs. laid B.down q ++ xs) right ∙ ap (λ B. laid B.down q ++ gs b ns f under ready) e in
-            subst (λ hs. Turned b ns (frames agenda (top + 1)) ys n hs zs m d) (sym is-hs)
-            (turned (hs b ns f under ready q) d (goes_ready b ns f under ready q rest'.0 rest'.1) (goes_falls b ns f under ready q rest'.0 rest'.1) (omega arith) (goes_todo b ns f under ready q rest'.0 rest'.1))
+        pub turned_some : (hs' : List Frame) → hs' ≡ laid B.down q ++ gs' → Turned b ns (f ∷ under) ys n hs' zs m
+        turned_some hs' laid-down =
+            let is-hs : hs' ≡ hs b ns f under ready q = laid-down ∙ ap (λ xs. laid B.down q ++ xs) right ∙ ap (λ B. laid B.down q ++ gs b ns f under ready) e in
+            subst (λ hs. Turned b ns (f ∷ under) ys n hs zs m) (sym is-hs)
+            (turned (hs b ns f under ready q) (goes_ready b ns f under ready q rest'.0 rest'.1) (goes_falls b ns f under ready q rest'.0 rest'.1) (goes_todo b ns f under ready q rest'.0 rest'.1))

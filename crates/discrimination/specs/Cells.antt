@@ -1,11 +1,12 @@
 -- The walk over the cells of a bank in place of their terms.
-use Rattle.std.specs.Prelude.{◌≡◌, ℕ, ◌+◌, ◌-◌, ◌≤◌, Bool, true, false, cond, ◌&&◌, List, [], ◌∷◌, ◌++◌, reverse, take, Some, None, Option, ◌==◌, slice_index_or}
+use Rattle.std.specs.Prelude.{◌≡◌, ℕ, ◌+◌, ◌-◌, ◌≤◌, cond, ◌&&◌, List, [], ◌∷◌, ◌++◌, reverse, length, take, Some, None, Option, ◌==◌, slice_index_or}
 use Rattle.bank.specs.declared.cell.Cell.{Cell}
 use Rattle.bank.specs.declared.cell.Cell.TheVariants.{Var, App}
 use Rattle.trie.specs.declared.branch.Label.{Label}
 use Rattle.trie.specs.declared.branch.Label.TheVariants.{Star, Symbol, Number}
 use Rattle.trie.specs.Trees.{Tree, nil, node}
-use Rattle.discrimination.specs.declared.pending.Pending.{Pending}
+use Rattle.row.specs.Items.{items}
+use Rattle.row.specs.declared.Row.{Row}
 
 -- the arguments of a cell that has the symbol f with a arguments
 abbrev pub args_of : Cell → ℕ → ℕ → Option (List ℕ)
@@ -34,9 +35,12 @@ abbrev pub scanned : List Cell → Tree → List ℕ → List ℕ
 scanned b nil is = []
 scanned b (node v l d r) is = (ended_cells l is ++ elim (after_cells b l is) [ None ↦ [] | Some js ↦ scanned b d js ]) ++ scanned b r is
 
--- the cells of a stack, from the top
+abbrev pub Pending : Type 0
+Pending = Row ℕ 32
+
+-- the cells that are pending, the next one first
 abbrev pub cells_of : Pending → List ℕ
-cells_of p = reverse (take p.len p.cells)
+cells_of p = reverse (items p)
 
 -- how many cells are left after a label that they fit
 abbrev pub wants : Label → ℕ → ℕ
@@ -52,20 +56,4 @@ Room (Number n) k = Unit {0}
 
 abbrev pub Rest : List Cell → Label → Pending → Option Pending → Type 0
 Rest b l p None = after_cells b l (cells_of p) ≡ None
-Rest b l p (Some q) = (after_cells b l (cells_of p) ≡ Some (cells_of q)) × (q.len ≡ wants l p.len)
-
-abbrev pub Bare : Pending → Bool → Type 0
-Bare p true = cells_of p ≡ []
-Bare p false = (i : ℕ) × (is : List ℕ) × (cells_of p ≡ i ∷ is)
-
-abbrev pub Popped : Pending → Option (ℕ × Pending) → Type 0
-Popped p None = (cells_of p ≡ []) × (p.len ≡ 0)
-Popped p (Some r) = (cells_of p ≡ r.0 ∷ cells_of r.1) × (p.len ≡ r.1.len + 1)
-
-abbrev pub Opened : List Cell → ℕ → ℕ → ℕ → Option (List ℕ) → Type 0
-Opened b i f a None = args_of (slice_index_or b i (Var 0)) f a ≡ None
-Opened b i f a (Some args) = args_of (slice_index_or b i (Var 0)) f a ≡ Some (take a args)
-
-pub record Heaped (p : Pending) (args : List ℕ) (a : ℕ) (q : Pending) : Type 0 where
-  pub cells : cells_of q ≡ take a args ++ cells_of p
-  pub len : q.len ≡ p.len + a
+Rest b l p (Some q) = (after_cells b l (cells_of p) ≡ Some (cells_of q)) × (length (cells_of q) ≡ wants l (length (cells_of p)))

@@ -8,12 +8,13 @@ use Rattle.trie.specs.declared.branch.Label.{Label}
 use Rattle.trie.specs.declared.branch.Branch.{Branch}
 use Rattle.trie.specs.Trees.{Tree, strings, places, is_trim, nodes_in}
 use Rattle.trie.specs.Pools.{Held, spelled}
-use Rattle.discrimination.specs.declared.pending.Pending.{Pending}
+use Rattle.row.specs.Items.{items}
+use Rattle.row.specs.declared.Row.{Row}
 use Rattle.discrimination.specs.declared.agenda.Frame.{Frame}
-use Rattle.discrimination.specs.Cells.{cells_of, ended_cells, scanned}
+use Rattle.discrimination.specs.Cells.{Pending, cells_of, ended_cells, scanned}
 
-abbrev pub frames : List Frame → ℕ → List Frame
-frames agenda depth = reverse (take depth agenda)
+abbrev pub frames : Row Frame 33 → List Frame
+frames agenda = reverse (items agenda)
 
 abbrev pub laid : Option ℕ → Pending → List Frame
 laid None p = []
@@ -40,7 +41,7 @@ pub record Part (ns : List Branch) (o : Option ℕ) (T : Tree) (m d : ℕ) : Typ
 -- each frame is deeper in the tree than those below it, so that there are at most 33
 abbrev pub Ready : List Branch → ℕ → List Frame → Type 0
 Ready ns k [] = k ≤ 33
-Ready ns k (f ∷ fs) = (m : ℕ) × (k ≤ m) × Part ns (Some f.place) (tree_at ns f) m f.pending.len × Ready ns (suc m) fs
+Ready ns k (f ∷ fs) = (m : ℕ) × (k ≤ m) × Part ns (Some f.place) (tree_at ns f) m (length (cells_of f.pending)) × Ready ns (suc m) fs
 
 -- what the frames will find
 abbrev pub todo : List Cell → List Branch → List Frame → List ℕ
@@ -56,12 +57,11 @@ weight ns (f ∷ fs) = length (places (tree_at ns f)) + weight ns fs
 abbrev pub total : List Cell → List Branch → List Frame → List ℕ → ℕ → List ℕ
 total b ns fs ys n = take (length ys) (take n ys ++ todo b ns fs)
 
-pub record Turned (b : List Cell) (ns : List Branch) (fs : List Frame) (ys : List ℕ) (n : ℕ) (gs : List Frame) (zs : List ℕ) (m : ℕ) (depth : ℕ) : Type 0 where
+pub record Turned (b : List Cell) (ns : List Branch) (fs : List Frame) (ys : List ℕ) (n : ℕ) (gs : List Frame) (zs : List ℕ) (m : ℕ) : Type 0 where
   pub ready : Ready ns 0 gs
   pub falls : weight ns gs < weight ns fs
   pub same : total b ns gs zs m ≡ total b ns fs ys n
   pub counted : m ≤ length zs
-  pub within : depth ≤ 33
 
 abbrev pub Noted : Label → List ℕ → List ℕ → ℕ → List ℕ → ℕ → Type 0
 Noted l is ys n zs m = (take m zs ≡ take (length ys) (take n ys ++ ended_cells l is)) × (m ≤ length zs)

@@ -1,8 +1,9 @@
 // The branches that are still to be walked.
-ghost use Rattle.std.specs.Prelude.{◌≡◌, ◌<◌, ◌≤◌, ◌++◌, length};
+ghost use Rattle.std.specs.Prelude.{◌≡◌, ◌<◌, ◌++◌, length};
 ghost use Rattle.discrimination.specs.Frames.{frames, laid};
 
 use crate::pending::Pending;
+use row::Row;
 
 // A branch, with the cells that the rows below it are to be matched with.
 #[derive(Clone, Copy)]
@@ -11,17 +12,15 @@ pub struct Frame {
     pub pending: Pending,
 }
 
-// A frame on top of the first `depth`, if there is a branch.
-pub fn push(agenda: &mut [Frame], depth: usize, place: Option<u16>, pending: Pending) -> usize
-    requires { depth < length agenda.old }
-    ensures frames { frames agenda.new result ≡ laid place pending ++ frames agenda.old depth }
-    ensures within { result ≤ length agenda.new }
+// Each frame is deeper in the tree than those before it, so that there are at most 33.
+pub type Agenda = Row<Frame, 33>;
+
+// A frame at the end, if there is a branch.
+pub fn lay(agenda: &mut Agenda, place: Option<u16>, pending: Pending)
+    requires { length (frames agenda.old) < 33 }
+    ensures { frames agenda.new ≡ laid place pending ++ frames agenda.old }
 {
-    match place {
-        Some(place) => {
-            agenda[depth] = Frame { place, pending };
-            depth + 1
-        }
-        None => depth,
+    if let Some(place) = place {
+        let _ = agenda.push(Frame { place, pending });
     }
 }

@@ -1,14 +1,15 @@
 // The walk over the tree, down every branch that fits and no other.
-ghost use Rattle.std.specs.Prelude.{◌≡◌, ◌+◌, ◌<◌, ◌≤◌, length};
+ghost use Rattle.std.specs.Prelude.{◌≡◌, ◌<◌, ◌≤◌, ◌∷◌, length};
 ghost use Rattle.lent_list.specs.Words.{Appended};
 ghost use Rattle.discrimination.specs.Cells.{cells_of};
 ghost use Rattle.discrimination.specs.Frames.{frames, Ready, Turned, Noted};
 ghost use Rattle.discrimination.specs.Retrieval.{Found};
 
-use crate::agenda::{Frame, push};
-use crate::pending::Pending;
+use crate::agenda::{Agenda, Frame, lay};
+use crate::pending::{Pending, after, one};
 use bank::cell::Cell;
 use lent_list::{Count, List};
+use row::Row;
 use trie::branch::Label;
 use trie::trie::Trie;
 
@@ -16,39 +17,35 @@ use trie::trie::Trie;
 pub fn walk(trie: &Trie, bank: &[Cell], cell: u16, list: &mut [u16], found: &mut Count)
     ensures { Found trie.now bank.now cell list.new found.new.len }
 {
-    let pending = Pending::one(cell);
-    let mut agenda = [Frame { place: 0, pending }; 33];
+    let pending = one(cell);
+    let mut agenda = Row::new(Frame { place: 0, pending });
     found.len = 0;
-    let mut depth = push(&mut agenda, 0, trie.root(), pending);
-    while depth > 0 {
-        depth = turn(trie, bank, &mut agenda, depth - 1, list, found);
+    lay(&mut agenda, trie.root(), pending);
+    while let Some(frame) = agenda.pop() {
+        turn(trie, bank, frame, &mut agenda, list, found);
     }
 }
 
-// The top branch makes way for the one below it, if its label fits, and the one right of it.
+// A branch makes way for the one below it, if its label fits, and the one right of it.
 fn turn(
     trie: &Trie,
     bank: &[Cell],
-    agenda: &mut [Frame],
-    top: usize,
+    frame: Frame,
+    agenda: &mut Agenda,
     list: &mut [u16],
     found: &mut Count,
-) -> usize
-    requires room { length agenda.old ≡ 33 }
-    requires within { top < 33 }
-    requires ready { Ready trie.now.nodes 0 (frames agenda.old (top + 1)) }
+)
+    requires ready { Ready trie.now.nodes 0 (frame ∷ frames agenda.old) }
     requires counted { found.old.len ≤ length list.old }
-    ensures { Turned bank.now trie.now.nodes (frames agenda.old (top + 1)) list.old found.old.len (frames agenda.new result) list.new found.new.len result }
+    ensures { Turned bank.now trie.now.nodes (frame ∷ frames agenda.old) list.old found.old.len (frames agenda.new) list.new found.new.len }
 {
-    let frame = agenda[top];
     let Some(branch) = trie.branch(frame.place) else {
-        return top;
+        return;
     };
-    let depth = push(agenda, top, branch.right, frame.pending);
+    lay(agenda, branch.right, frame.pending);
     note(list, found, branch.label, &frame.pending);
-    match frame.pending.after(branch.label, bank) {
-        Some(rest) => push(agenda, depth, branch.down, rest),
-        None => depth,
+    if let Some(rest) = after(frame.pending, branch.label, bank) {
+        lay(agenda, branch.down, rest);
     }
 }
 
@@ -58,7 +55,7 @@ fn note(list: &mut [u16], found: &mut Count, label: Label, pending: &Pending)
     ensures { Noted label (cells_of pending.now) list.old found.old.len list.new found.new.len }
 {
     if let Label::Number(number) = label {
-        if pending.is_empty() {
+        if pending.as_slice().is_empty() {
             let _ = append(list, found, number);
         }
     }

@@ -54,43 +54,32 @@ fn cells() -> [Cell; 6] {
     ]
 }
 
-// 0 for what is not refused.
-fn code(answer: Result<(), Refusal>) -> u8 {
-    match answer {
-        Ok(()) => 0,
-        Err(e) => e.number(),
-    }
-}
-
 // Filled, overflowed, emptied in part and filled again.
 fn exercise<I: Index>(rt: &impl Abort, index: &mut I) -> Result<(), Fail> {
-    let Some(pattern) = Pattern::variable(0) else {
-        assert!(rt; false);
-        return Ok(());
-    };
+    let pattern = Pattern::variable(0).ok_or("no pattern")?;
     let capacity = I::CAPACITY.get().min(128) as u16;
     for n in 0..capacity {
-        assert_eq!(rt; code(index.insert(n, &pattern)), 0);
+        assert_eq!(rt; index.insert(n, &pattern), Ok(()));
     }
-    assert_eq!(rt; code(index.insert(capacity, &pattern)), 7);
-    assert_eq!(rt; code(index.insert(0, &pattern)), 6);
-    assert_eq!(rt; code(index.remove(0)), 0);
-    assert_eq!(rt; code(index.remove(0)), 10);
+    assert_eq!(rt;
+        index.insert(capacity, &pattern),
+        Err(Refusal::CapacityReached)
+    );
+    assert_eq!(rt; index.insert(0, &pattern), Err(Refusal::NumberTaken));
+    assert_eq!(rt; index.remove(0), Ok(()));
+    assert_eq!(rt; index.remove(0), Err(Refusal::NumberAbsent));
     assert!(rt; index.get(0).is_err());
-    assert_eq!(rt; code(index.insert(capacity, &pattern)), 0);
+    assert_eq!(rt; index.insert(capacity, &pattern), Ok(()));
     assert!(rt; index.get(capacity).is_ok());
-    assert_eq!(rt; code(index.insert(0, &pattern)), 7);
+    assert_eq!(rt; index.insert(0, &pattern), Err(Refusal::CapacityReached));
     index.clear();
     assert!(rt; index.get(capacity).is_err());
-    assert_eq!(rt; code(index.insert(0, &pattern)), 0);
+    assert_eq!(rt; index.insert(0, &pattern), Ok(()));
     Ok(())
 }
 
 fn store<I: Index>(index: &mut I, number: u16, nodes: &[Node]) -> bool {
-    match Pattern::new(nodes) {
-        Some(pattern) => index.insert(number, &pattern).is_ok(),
-        None => false,
-    }
+    Pattern::new(nodes).is_some_and(|pattern| index.insert(number, &pattern).is_ok())
 }
 
 // Whether these numbers and no others are found for the cell.
@@ -106,12 +95,7 @@ fn finds<I: ExactIndex>(index: &I, cell: u16, expected: &[u16]) -> bool {
         return false;
     }
     let numbers = &list[..found.len];
-    for number in expected {
-        if !numbers.contains(number) {
-            return false;
-        }
-    }
-    true
+    expected.iter().all(|number| numbers.contains(number))
 }
 
 // Patterns of every shape, asked about every cell.
@@ -127,18 +111,22 @@ fn answers<I: ExactIndex>(rt: &impl Abort, index: &mut I) {
     assert!(rt; finds(index, 3, &[4, 9]));
     assert!(rt; finds(index, 4, &[4, 9, 300]));
     assert!(rt; finds(index, 5, &[5, 9]));
-    assert_eq!(rt; code(index.remove(9)), 0);
+    assert_eq!(rt; index.remove(9), Ok(()));
     assert!(rt; finds(index, 0, &[]));
     assert!(rt; finds(index, 4, &[4, 300]));
 }
 
-// The number of the refusal; 0 where there is none, or where the list or its count was touched.
-fn refusal<I: Index>(index: &I, cells: &[Cell], count: usize, cell: u16, room: usize) -> u8 {
-    let Ok(signature) = Signature::read(ARITHMETIC) else {
-        return 0;
-    };
+// What the question is refused with, if the list and its count stay as they were.
+fn refusal<I: Index>(
+    index: &I,
+    cells: &[Cell],
+    count: usize,
+    cell: u16,
+    room: usize,
+) -> Option<Refusal> {
+    let signature = Signature::read(ARITHMETIC).ok()?;
     if room > 128 {
-        return 0;
+        return None;
     }
     let mut list = [7; 128];
     let mut found = Count { len: 3 };
@@ -150,11 +138,10 @@ fn refusal<I: Index>(index: &I, cells: &[Cell], count: usize, cell: u16, room: u
         &mut list[..room],
         &mut found,
     );
-    if found.len == 3 && list[0] == 7 && list[127] == 7 {
-        code(answer)
-    } else {
-        0
+    if found.len != 3 || list[0] != 7 || list[127] != 7 {
+        return None;
     }
+    answer.err()
 }
 
 // The limits before the bank's rules, and those before the cell.
@@ -162,35 +149,37 @@ fn refuses<I: Index>(rt: &impl Abort, index: &I) {
     let cells = cells();
     let broken = [app(1, 1, 0, 0)];
     let large = [Cell::Var(0); 2049];
-    assert_eq!(rt; refusal(index, &[], 0, 0, 128), 12);
-    assert_eq!(rt; refusal(index, &large, 1, 0, 128), 12);
+    assert_eq!(rt; refusal(index, &[], 0, 0, 128), Some(Refusal::Limits));
+    assert_eq!(rt; refusal(index, &large, 1, 0, 128), Some(Refusal::Limits));
     assert_eq!(rt;
         refusal(index, &broken, 1, 0, I::CAPACITY.get().saturating_sub(1)),
-        12
+        Some(Refusal::Limits)
     );
-    assert_eq!(rt; refusal(index, &broken, 1, 0, 128), 16);
-    assert_eq!(rt; refusal(index, &cells, 7, 0, 128), 16);
-    assert_eq!(rt; refusal(index, &cells, 6, 6, 128), 16);
+    assert_eq!(rt;
+        refusal(index, &broken, 1, 0, 128),
+        Some(Refusal::BankRules)
+    );
+    assert_eq!(rt; refusal(index, &cells, 7, 0, 128), Some(Refusal::BankRules));
+    assert_eq!(rt; refusal(index, &cells, 6, 6, 128), Some(Refusal::BankRules));
+}
+
+// All that an exact index is asked.
+fn serves<I: ExactIndex>(rt: &impl Abort, mut index: I) -> Result<(), Fail> {
+    refuses(rt, &index);
+    exercise(rt, &mut index)?;
+    index.clear();
+    answers(rt, &mut index);
+    Ok(())
 }
 
 #[test]
 fn plain_list(rt: HostRuntime) -> Result<(), Fail> {
-    let mut index = PlainList::new();
-    refuses(&rt, &index);
-    exercise(&rt, &mut index)?;
-    index.clear();
-    answers(&rt, &mut index);
-    Ok(())
+    serves(&rt, PlainList::new())
 }
 
 #[test]
 fn filtered_list(rt: HostRuntime) -> Result<(), Fail> {
-    let mut index = Filter::over(PlainList::new());
-    refuses(&rt, &index);
-    exercise(&rt, &mut index)?;
-    index.clear();
-    answers(&rt, &mut index);
-    Ok(())
+    serves(&rt, Filter::over(PlainList::new()))
 }
 
 #[test]
@@ -202,11 +191,7 @@ fn discrimination_tree(rt: HostRuntime) -> Result<(), Fail> {
 
 #[test]
 fn filtered_tree(rt: HostRuntime) -> Result<(), Fail> {
-    let mut index = Filter::over(DiscriminationTree::new());
-    exercise(&rt, &mut index)?;
-    index.clear();
-    answers(&rt, &mut index);
-    Ok(())
+    serves(&rt, Filter::over(DiscriminationTree::new()))
 }
 
 // The two agree where they store the same.

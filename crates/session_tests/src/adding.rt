@@ -1,80 +1,71 @@
 // Each refusal of adding, and where two would fit, the one that is looked at first.
-use crate::sessions::{added, open_by};
+use crate::sessions::{added, numbered, open_by};
 use by_size::BySize;
 use index::index::Index;
 use kbo::KnuthBendix;
 use order::ReductionOrder;
 use refusal::Refusal;
-use std::alloc::{AllocError, Global};
 use std::test::Fail;
 
-// A number and a text, with the refusal's number, or 0.
-static CALLS: [(u32, &[u8], u8); 22] = [
-    (2, b"cnf(e,axiom,s(X)=X).", 0),
-    (2, b"cnf(e,hypothesis,X=s(X)).", 0),
-    (30000, b"cnf(e,axiom,(f(X,Y)=s(X))).", 0),
-    (0, b"cnf(e,axiom,s(X)=X).", 5),
-    (30001, b"cnf(e,axiom,s(X)=X).", 5),
-    (65537, b"cnf(e,axiom,s(X)=X).", 5),
-    (2, b"cnf(e,axiom,s(X)=X)", 1),
-    (2, b"cnf(e,axiom,g(X)=X).", 2),
+// A number and a text, and the number of the refusal if there is one.
+static CALLS: [(u32, &[u8], Result<(), u8>); 22] = [
+    (2, b"cnf(e,axiom,s(X)=X).", Ok(())),
+    (2, b"cnf(e,hypothesis,X=s(X)).", Ok(())),
+    (30000, b"cnf(e,axiom,(f(X,Y)=s(X))).", Ok(())),
+    (0, b"cnf(e,axiom,s(X)=X).", Err(5)),
+    (30001, b"cnf(e,axiom,s(X)=X).", Err(5)),
+    (65537, b"cnf(e,axiom,s(X)=X).", Err(5)),
+    (2, b"cnf(e,axiom,s(X)=X)", Err(1)),
+    (2, b"cnf(e,axiom,g(X)=X).", Err(2)),
     (
         2,
         b"cnf(e,axiom,s(s(s(s(s(s(s(s(s(s(s(s(s(s(s(s(s(s(s(s(s(s(s(s(s(s(s(s(s(s(s(s(X))))))))))))))))))))))))))))))))=X).",
-        3,
+        Err(3),
     ),
-    (2, b"cnf(e,negated_conjecture,s(X)=X).", 4),
-    (2, b"cnf(e,lemma,s(X)=X).", 4),
-    (2, b"cnf(e,axiom,s(X)!=X).", 4),
-    (1, b"cnf(e,axiom,s(X)=X).", 6),
-    (2, b"cnf(e,axiom,f(X,Y)=f(Y,X)).", 8),
+    (2, b"cnf(e,negated_conjecture,s(X)=X).", Err(4)),
+    (2, b"cnf(e,lemma,s(X)=X).", Err(4)),
+    (2, b"cnf(e,axiom,s(X)!=X).", Err(4)),
+    (1, b"cnf(e,axiom,s(X)=X).", Err(6)),
+    (2, b"cnf(e,axiom,f(X,Y)=f(Y,X)).", Err(8)),
     // 5 before 1
-    (0, b"cnf(e,axiom,s(X)=X)", 5),
+    (0, b"cnf(e,axiom,s(X)=X)", Err(5)),
     // 1 before 2
-    (2, b"cnf(e,axiom,g(X)=X)", 1),
+    (2, b"cnf(e,axiom,g(X)=X)", Err(1)),
     // 2 before 3
     (
         2,
         b"cnf(e,axiom,s(s(s(s(s(s(s(s(s(s(s(s(s(s(s(s(s(s(s(s(s(s(s(s(s(s(s(s(s(s(s(s(X))))))))))))))))))))))))))))))))=g(X)).",
-        2,
+        Err(2),
     ),
     // 3 before 4
     (
         2,
         b"cnf(e,lemma,s(s(s(s(s(s(s(s(s(s(s(s(s(s(s(s(s(s(s(s(s(s(s(s(s(s(s(s(s(s(s(s(X))))))))))))))))))))))))))))))))=X).",
-        3,
+        Err(3),
     ),
     // 4 before 6
-    (1, b"cnf(e,lemma,s(X)=X).", 4),
+    (1, b"cnf(e,lemma,s(X)=X).", Err(4)),
     // 4 before 8
-    (2, b"cnf(e,axiom,z!=e).", 4),
+    (2, b"cnf(e,axiom,z!=e).", Err(4)),
     // 6 before 8
-    (1, b"cnf(e,axiom,z=e).", 6),
-    (2, b"cnf(e,axiom,z=e).", 8),
+    (1, b"cnf(e,axiom,z=e).", Err(6)),
+    (2, b"cnf(e,axiom,z=e).", Err(8)),
 ];
 
 #[test]
 fn refusals(rt: HostRuntime) {
     for (number, text, answer) in CALLS {
-        assert_eq!(rt; added(number, text), Ok(answer));
+        assert_eq!(rt; numbered(added(number, text)), Ok(answer));
     }
-}
-
-fn spaces(heap: Global, count: usize) -> Result<Vec<u8>, AllocError> {
-    let mut text = Vec::new(heap);
-    for _ in 0..count {
-        text.push(b' ')?;
-    }
-    Ok(text)
 }
 
 #[test]
 fn long_texts(rt: HostRuntime) -> Result<(), Fail> {
-    let mut text = spaces(rt.alloc(), 32_768)?;
-    assert_eq!(rt; added(2, &text), Ok(1));
+    let mut text = vec![in rt.alloc(); b' '; 32_768]?;
+    assert_eq!(rt; numbered(added(2, &text)), Ok(Err(1)));
     text.push(b' ')?;
-    assert_eq!(rt; added(2, &text), Ok(12));
-    assert_eq!(rt; added(0, &text), Ok(5));
+    assert_eq!(rt; added(2, &text), Ok(Err(Refusal::Limits)));
+    assert_eq!(rt; added(0, &text), Ok(Err(Refusal::NumberRange)));
     Ok(())
 }
 

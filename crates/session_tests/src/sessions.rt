@@ -19,17 +19,17 @@ pub(crate) fn open() -> Result<Session<PlainList, BySize>, Refusal> {
     open_by(BySize)
 }
 
-// The number of the refusal, or 0.
-pub(crate) fn refusal_number(answer: Result<(), Refusal>) -> u8 {
-    match answer {
-        Ok(()) => 0,
-        Err(refusal) => refusal.number(),
-    }
+// What became of one call, once the session stood.
+pub(crate) type Called = Result<Result<(), Refusal>, Refusal>;
+
+// The same by the refusal's number, where the byte that it carries does not matter.
+pub(crate) fn numbered(call: Called) -> Result<Result<(), u8>, Refusal> {
+    Ok(call?.map_err(|refusal| refusal.number()))
 }
 
-// What adding one equation to a session that has number 1 is refused with.
-pub(crate) fn added(number: u32, text: &[u8]) -> Result<u8, Refusal> {
+// One equation added to a session that has number 1.
+pub(crate) fn added(number: u32, text: &[u8]) -> Called {
     let mut session = open()?;
     session.add(1, b"cnf(e,axiom,s(X)=X).")?;
-    Ok(refusal_number(session.add(number, text)))
+    Ok(session.add(number, text))
 }
