@@ -8,7 +8,7 @@ use Rattle.bank.specs.Rules.{Rules}
 use Rattle.bank.specs.Means.{Means}
 use Rattle.enter.specs.Grown.{Part}
 use Rattle.enter.proofs.Rooms.{part_stands}
-use Rattle.trace.specs.declared.Side.{Side}
+use Rattle.terms.specs.declared.side.Side.{Side}
 use Rattle.trace.specs.declared.Step.{Step}
 use Rattle.reduction.specs.declared.outcome.Outcome.{Outcome}
 use Rattle.reduction.specs.declared.outcome.Outcome.TheVariants.{Finished, Spent, NoRoom}

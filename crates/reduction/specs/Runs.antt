@@ -1,7 +1,7 @@
 -- The rewriting of one side, in a bank of m cells, until it ends.
 use Rattle.std.specs.Prelude.{◌≡◌, ℕ, suc, List, [], ◌∷◌}
 use Rattle.bank.specs.declared.cell.Cell.{Cell}
-use Rattle.trace.specs.declared.Side.{Side}
+use Rattle.terms.specs.declared.side.Side.{Side}
 use Rattle.trace.specs.declared.Step.{Step}
 use Rattle.reduction.specs.declared.outcome.Outcome.{Outcome}
 use Rattle.reduction.specs.declared.outcome.Outcome.TheVariants.{Finished, Spent, NoRoom}

@@ -1,11 +1,11 @@
 -- The text of a run's lines.
 use Rattle.std.specs.Prelude.{ℕ, List, ◌∷◌, ◌++◌, codes, decimal}
-use Rattle.trace.specs.declared.Side.{Side}
-use Rattle.trace.specs.declared.Side.TheVariants.{Left, Right}
+use Rattle.terms.specs.declared.side.Side.{Side}
+use Rattle.terms.specs.declared.side.Side.TheVariants.{Left, Right}
 use Rattle.trace.specs.declared.Step.{Step}
 use Rattle.run.specs.declared.answer.Answer.{Answer}
 use Rattle.run.specs.declared.answer.Ended.{Ended}
-pub use Rattle.trace.specs.Words.{side_word}
+pub use Rattle.terms.specs.Sides.{side_word}
 pub use Rattle.reduction.specs.Words.{outcome_word}
 pub use Rattle.run.specs.Words.{verdict_word}
 

@@ -6,7 +6,8 @@ ghost use Rattle.report.specs.Lines.{end_text, head_text, step_text};
 
 use run::answer::{Answer, Ended};
 use std::fmt;
-use trace::{Side, Step};
+use terms::side::Side;
+use trace::Step;
 
 pub mod term;
 

@@ -1,6 +1,6 @@
 // A side's final term, as a line.
 use std::fmt;
-use trace::Side;
+use terms::side::Side;
 
 // The text is a term's, which has ASCII letters, digits and marks only.
 #[derive(Clone, Copy)]

@@ -16,7 +16,7 @@ use Rattle.reduction.specs.Redexes.{Equations}
 use Rattle.reduction.specs.Runs.{Run}
 use Rattle.reduction.specs.Laws.{Comes}
 use Rattle.reduction.proofs.Comings.{comes}
-use Rattle.trace.specs.declared.Side.TheVariants.{Left, Right}
+use Rattle.terms.specs.declared.side.Side.TheVariants.{Left, Right}
 use Rattle.trace.specs.declared.Step.{Step}
 use Rattle.apply.specs.Applies.{Filed}
 use Rattle.strategy.specs.Searches.{Settled}

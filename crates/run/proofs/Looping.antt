@@ -9,7 +9,7 @@ use Rattle.reduction.specs.declared.outcome.Outcome.TheVariants.{Finished, Spent
 use Rattle.reduction.specs.Redexes.{Equations}
 use Rattle.reduction.specs.Steps.{Stepped}
 use Rattle.reduction.specs.Runs.{Run, finished, spent, blocked, step}
-use Rattle.trace.specs.declared.Side.{Side}
+use Rattle.terms.specs.declared.side.Side.{Side}
 use Rattle.trace.specs.declared.Step.{Step}
 use Rattle.run.specs.declared.answer.Ended.{Ended}
 use Rattle.run.specs.Sides.{Ready, Grown, SideRun, EndsBy, Onward, Halted}

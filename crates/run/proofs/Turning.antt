@@ -20,7 +20,7 @@ use Rattle.strategy.specs.Searches.{Searchable, Settled, Choice, Searched}
 use Rattle.strategy.specs.declared.Redex.{Redex}
 use Rattle.apply.specs.Applies.{Redo, Applies}
 use Rattle.apply.specs.declared.Applied.{Applied}
-use Rattle.trace.specs.declared.Side.{Side}
+use Rattle.terms.specs.declared.side.Side.{Side}
 use Rattle.trace.specs.declared.Step.{Step}
 use Rattle.run.specs.Sides.{Ready, Onward, Halted}
 

@@ -18,7 +18,7 @@ use Rattle.reduction.specs.declared.outcome.Outcome.TheVariants.{Finished, Spent
 use Rattle.reduction.specs.Redexes.{Equations}
 use Rattle.reduction.specs.Runs.{Run}
 use Rattle.reduction.specs.Laws.{Leads, NormalForm}
-use Rattle.trace.specs.declared.Side.TheVariants.{Left, Right}
+use Rattle.terms.specs.declared.side.Side.TheVariants.{Left, Right}
 use Rattle.trace.specs.declared.Step.{Step}
 use Rattle.apply.specs.Applies.{Filed}
 use Rattle.run.specs.declared.answer.Ended.{Ended}

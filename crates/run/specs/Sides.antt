@@ -9,7 +9,7 @@ use Rattle.reduction.specs.declared.outcome.Outcome.TheVariants.{Finished, Spent
 use Rattle.reduction.specs.Redexes.{Equations, highers, Picked, Normal}
 use Rattle.reduction.specs.Steps.{Stepped, Blocked}
 use Rattle.reduction.specs.Runs.{Run}
-use Rattle.trace.specs.declared.Side.{Side}
+use Rattle.terms.specs.declared.side.Side.{Side}
 use Rattle.trace.specs.declared.Step.{Step}
 use Rattle.apply.specs.Applies.{Filed}
 use Rattle.strategy.specs.Searches.{Settled}

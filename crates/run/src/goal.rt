@@ -15,7 +15,8 @@ use reduction::outcome::Outcome;
 use refusal::Refusal;
 use signature::signature::Signature;
 use terms::pattern::Pattern;
-use trace::{Side, Step};
+use terms::side::Side;
+use trace::Step;
 
 pub fn run_goal<I: ExactIndex>(
     signature: &Signature,

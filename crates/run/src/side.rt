@@ -13,7 +13,8 @@ use lent_list::Count;
 use reach::mark_reached;
 use reduction::outcome::Outcome;
 use strategy::next_redex;
-use trace::{Side, Step};
+use terms::side::Side;
+use trace::Step;
 
 // `settled` has cells that are known to be no instance of a higher side, and is kept from side to side.
 pub fn run_side<I: ExactIndex>(

@@ -1,30 +1,12 @@
 // The records of a run: one for each rewriting step, in the caller's memory.
 #![tactic(auto)]
 
-ghost use Rattle.std.specs.Prelude.{◌≡◌, Some};
-ghost use Rattle.trace.specs.Words.{side_word};
+ghost use Rattle.std.specs.Prelude.{◌≡◌};
 ghost use Rattle.lent_list.specs.Words.{Appended};
 ghost use Rattle.std.proofs.Common.{rules};
 
 use lent_list::{Exact, List};
-use std::fmt;
-
-#[derive(Clone, Copy, PartialEq, Eq, Debug)]
-pub enum Side {
-    Left,
-    Right,
-}
-
-impl fmt::Display for Side {
-    ghost output = { λ s. Some (side_word s) };
-
-    fn fmt<W: fmt::Write>(&self, f: &mut fmt::Formatter<W>) -> fmt::Result {
-        f.write_str(match self {
-            Side::Left => "left",
-            Side::Right => "right",
-        })
-    }
-}
+use terms::side::Side;
 
 // Which side was rewritten, by which equation, the cell that was replaced, the cell put in, and the cell of the side's term after it.
 #[derive(Clone, Copy, PartialEq, Eq, Debug)]
