@@ -2,9 +2,9 @@
 use Rattle.std.specs.Prelude.{ℕ, List, drop}
 use Rattle.std.specs.Option.{unwrap_or}
 use Rattle.terms.specs.Term.{Term, Terms, var, nil, ◌▹◌}
+pub use Rattle.terms.specs.Preorder.{arguments}
 use Rattle.terms.specs.Preorder.{row}
 use Rattle.terms.specs.declared.pattern.Node.{Node}
-use Rattle.terms.specs.declared.pattern.Node.TheVariants.{Var, App}
 
 -- the terms that the row lists from place p on, one after another
 abbrev pub from : List Node → ℕ → Terms
@@ -17,8 +17,3 @@ leading (t ▹ ts) = t
 -- the subterm whose occurrences begin at place p
 abbrev pub at : List Node → ℕ → Term
 at ns p = leading (from ns p)
-
--- how many arguments the node takes
-abbrev pub arguments : Node → ℕ
-arguments (Var x) = 0
-arguments (App f a) = a

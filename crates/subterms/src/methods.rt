@@ -47,7 +47,7 @@ impl Subterms {
         ensures { result ≡ width (args (at (row_of self.now) p)) }
     {
         match self.nodes().get(p) {
-            Some(node) => arity(*node),
+            Some(node) => node.arity(),
             None => 0,
         }
     }
@@ -84,16 +84,7 @@ fn end(row: &[Node], p: usize) -> usize
         if open == 0 {
             return i;
         }
-        open = open - 1 + arity(row[i]);
+        open = open - 1 + row[i].arity();
     }
     row.len()
-}
-
-fn arity(node: Node) -> usize
-    ensures { result ≡ arguments node }
-{
-    match node {
-        Node::Var(_) => 0,
-        Node::App { arity, .. } => usize::from(arity),
-    }
 }
