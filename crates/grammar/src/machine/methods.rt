@@ -109,6 +109,7 @@ pub fn formula_end(text: &[u8], at: usize) -> Result<usize, Fault>
     ensures { Walked text.now at result }
 {
     let mut state = State::Start;
+    // By place: where the last token ends is the answer.
     let mut end = at;
     while !state.is_done() {
         let token = next_token(text, end).ok_or(Fault { place: text.len() })?;
