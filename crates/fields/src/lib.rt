@@ -12,7 +12,7 @@ pub struct Field<'a> {
 }
 
 // The text up to the first byte `end`, and after it.
-pub fn cut<'a>(text: &'a [u8], end: u8) -> Option<Field<'a>>
+pub fn cut(text: &[u8], end: u8) -> Option<Field<'_>>
     ensures { MatchOption result (Without end text.now) (λ f. Cut end text.now f.bytes.now f.after.now) }
 {
     let at = text.iter().position(|byte| *byte == end)?;

@@ -10,6 +10,7 @@ use lexer::token::{Kind, Token};
 pub fn skip_tokens(text: &[u8], at: usize, n: usize) -> usize
     ensures { tokens_from (drop result text.now) result ≡ drop n (tokens_from (drop at text.now) at) }
 {
+    // By place: where the last token ends is the answer.
     let mut place = at;
     for _ in 0..n {
         let Some(token) = next_token(text, place) else {

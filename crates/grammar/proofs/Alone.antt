@@ -15,8 +15,9 @@ use Rattle.lexer.proofs.Lexing.{Moves, front_moves, tokens_gap, tokens_piece, to
 use Rattle.lexer.proofs.Cuts.{reach, first_cut}
 use Rattle.grammar.specs.Kinds.{code, same_kind}
 use Rattle.grammar.specs.Fits.{Complete}
-use Rattle.grammar.specs.Machine.{next, is_done, expect, spot, term_start, inside, outside, behind}
+use Rattle.grammar.specs.Machine.{is_right, next, is_done, expect, spot, term_start, inside, outside, behind}
 use Rattle.grammar.specs.Outcomes.{end_behind}
+use Rattle.grammar.specs.declared.machine.Side.TheVariants.{Left, Right}
 use Rattle.grammar.specs.declared.machine.Spot.{Spot}
 use Rattle.grammar.specs.declared.machine.State.{State}
 use Rattle.grammar.specs.declared.machine.State.TheVariants as state
@@ -229,8 +230,8 @@ start_undone s k = cond_both (same_kind k Variable) (Some (state.Closed s)) _ Un
 behind_undone : (s : Spot) (k : Kind) → Undone (behind s k)
 behind_undone s k =
     cond_both (ltb 0 s.depth) (inside s k) (outside s k) Undone
-    (λ _. cond_both (same_kind k Comma) (Some (state.Term s)) _ Undone (λ _. refl) (λ _. expect_undone (same_kind k Close) (state.Closed (spot (s.depth - 1) s.right s.wrapped)) refl))
-    (λ _. cond_both s.right _ _ Undone (λ _. expect_undone (same_kind k Close) _ (cond_both s.wrapped state.Unwrapped state.Ended (λ p. is_done p ≡ false) (λ _. refl) (λ _. refl))) (λ _. expect_undone _ (state.Term (spot 0 true s.wrapped)) refl))
+    (λ _. cond_both (same_kind k Comma) (Some (state.Term s)) _ Undone (λ _. refl) (λ _. expect_undone (same_kind k Close) (state.Closed (spot (s.depth - 1) s.side s.wrapped)) refl))
+    (λ _. cond_both (is_right s.side) _ _ Undone (λ _. expect_undone (same_kind k Close) _ (cond_both s.wrapped state.Unwrapped state.Ended (λ p. is_done p ≡ false) (λ _. refl) (λ _. refl))) (λ _. expect_undone _ (state.Term (spot 0 Right s.wrapped)) refl))
 
 undone_not : {A : Type 0} (o : Option State) → Undone o → o ≡ Some state.Done → A
 undone_not o u e = let P : Option State → Type 0 = Undone in absurd (false≢true (sym (subst P e u)))
@@ -242,9 +243,9 @@ done_dot state.Name t e = undone_not _ (expect_undone _ state.NameComma refl) e
 done_dot state.NameComma t e = undone_not _ (expect_undone _ state.Role refl) e
 done_dot state.Role t e = undone_not _ (expect_undone _ state.RoleComma refl) e
 done_dot state.RoleComma t e = undone_not _ (expect_undone _ state.Body refl) e
-done_dot state.Body t e = undone_not _ (cond_both (same_kind t.kind Open) (Some (state.Term (spot 0 false true))) _ Undone (λ _. refl) (λ _. start_undone (spot 0 false false) t.kind)) e
+done_dot state.Body t e = undone_not _ (cond_both (same_kind t.kind Open) (Some (state.Term (spot 0 Left true))) _ Undone (λ _. refl) (λ _. start_undone (spot 0 Left false) t.kind)) e
 done_dot (state.Term s) t e = undone_not _ (start_undone s t.kind) e
-done_dot (state.Named s) t e = undone_not _ (cond_both (same_kind t.kind Open) (Some (state.Term (spot (s.depth + 1) s.right s.wrapped))) _ Undone (λ _. refl) (λ _. behind_undone s t.kind)) e
+done_dot (state.Named s) t e = undone_not _ (cond_both (same_kind t.kind Open) (Some (state.Term (spot (s.depth + 1) s.side s.wrapped))) _ Undone (λ _. refl) (λ _. behind_undone s t.kind)) e
 done_dot (state.Closed s) t e = undone_not _ (behind_undone s t.kind) e
 done_dot state.Unwrapped t e = undone_not _ (expect_undone _ state.Ended refl) e
 done_dot state.Ended t e = (kind_met t Dot state.Done (λ p. Some p) state.Done (bound _ e)).0

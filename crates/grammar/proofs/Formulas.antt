@@ -7,6 +7,7 @@ use Rattle.lexer.specs.declared.token.Kind.TheVariants.{Word, Open, Close, Comma
 use Rattle.grammar.specs.Kinds.{same_kind, same_bytes}
 use Rattle.grammar.specs.Machine.{expect, spot, next, term_start, is_done}
 use Rattle.grammar.specs.Syntax.{Literal, Sides, sides, Body, bare, wrapped, Parsed, Formula, formula, Is}
+use Rattle.grammar.specs.declared.machine.Side.TheVariants.{Left, Right}
 use Rattle.grammar.specs.declared.machine.State.{State}
 use Rattle.grammar.specs.declared.machine.State.TheVariants as state
 use Rattle.std.proofs.lemmas.Slice.Eq.{bytes_eq-Decides}
@@ -14,20 +15,20 @@ use Rattle.grammar.proofs.Same.{same_kind_true}
 use Rattle.grammar.proofs.Steps.{none_some, some_same, bind, goes, expected, kind_met}
 use Rattle.grammar.proofs.Terms.{term_fore, term_back}
 
-sign_step : (w : Bool) (s : Lexeme) (us rest : List Lexeme) → Is Equal s ⊎ Is Unequal s → goes (state.Term (spot 0 true w)) us ≡ Some rest → goes (state.Closed (spot 0 false w)) (s ∷ us) ≡ Some rest
+sign_step : (w : Bool) (s : Lexeme) (us rest : List Lexeme) → Is Equal s ⊎ Is Unequal s → goes (state.Term (spot 0 Right w)) us ≡ Some rest → goes (state.Closed (spot 0 Left w)) (s ∷ us) ≡ Some rest
 sign_step w s us rest (inl k) e = rw k e
 sign_step w s us rest (inr k) e = rw k e
 
-sides_fore : {ts us : List Lexeme} {x : Literal} → Sides ts x us → (w : Bool) (rest : List Lexeme) → goes (state.Closed (spot 0 true w)) us ≡ Some rest → goes (state.Term (spot 0 false w)) ts ≡ Some rest
-sides_fore (sides {us = us} {s = s} l k r) w rest e = term_fore l (spot 0 false w) rest (sign_step w s us rest k (term_fore r (spot 0 true w) rest e))
+sides_fore : {ts us : List Lexeme} {x : Literal} → Sides ts x us → (w : Bool) (rest : List Lexeme) → goes (state.Closed (spot 0 Right w)) us ≡ Some rest → goes (state.Term (spot 0 Left w)) ts ≡ Some rest
+sides_fore (sides {us = us} {s = s} l k r) w rest e = term_fore l (spot 0 Left w) rest (sign_step w s us rest k (term_fore r (spot 0 Right w) rest e))
 
 -- no term begins with a parenthesis
-bare_start : (ts rest : List Lexeme) → goes (state.Term (spot 0 false false)) ts ≡ Some rest → goes state.Body ts ≡ Some rest
+bare_start : (ts rest : List Lexeme) → goes (state.Term (spot 0 Left false)) ts ≡ Some rest → goes state.Body ts ≡ Some rest
 bare_start [] rest e = none_some e
 bare_start (t ∷ ts) rest e = by (cases_Bool (same_kind t.kind Open))
   where
     by : (same_kind t.kind Open ≡ true) ⊎ (same_kind t.kind Open ≡ false) → goes state.Body (t ∷ ts) ≡ Some rest
-    by (inl is) = none_some (sym (ap (λ k. bind (term_start (spot 0 false false) k) (λ p. goes p ts)) (same_kind_true t.kind Open is)) ∙ e)
+    by (inl is) = none_some (sym (ap (λ k. bind (term_start (spot 0 Left false) k) (λ p. goes p ts)) (same_kind_true t.kind Open is)) ∙ e)
     by (inr other) = ap (λ o. bind o (λ p. goes p ts)) (cond-false _ _ _ other) ∙ e
 
 body_fore : {ts : List Lexeme} {c : Lexeme} {us : List Lexeme} {x : Literal} → Body ts x (c ∷ us) → (rest : List Lexeme) → Is Close c → goes state.Ended us ≡ Some rest → goes state.Body ts ≡ Some rest
@@ -46,30 +47,30 @@ record SidesBack (w : Bool) (ts rest : List Lexeme) : Type 0 where
   body : Literal
   left : List Lexeme
   is : Sides ts body left
-  on : goes (state.Closed (spot 0 true w)) left ≡ Some rest
+  on : goes (state.Closed (spot 0 Right w)) left ≡ Some rest
 
 record SignBack (w : Bool) (ts rest : List Lexeme) : Type 0 where
   sign : Lexeme
   left : List Lexeme
   is : ts ≡ sign ∷ left
   kind : Is Equal sign ⊎ Is Unequal sign
-  on : goes (state.Term (spot 0 true w)) left ≡ Some rest
+  on : goes (state.Term (spot 0 Right w)) left ≡ Some rest
 
-sign_back : (w : Bool) (ts rest : List Lexeme) → goes (state.Closed (spot 0 false w)) ts ≡ Some rest → SignBack w ts rest
+sign_back : (w : Bool) (ts rest : List Lexeme) → goes (state.Closed (spot 0 Left w)) ts ≡ Some rest → SignBack w ts rest
 sign_back w [] rest e = none_some e
 sign_back w (t ∷ ts) rest e =
-    let m = expected (same_kind t.kind Equal || same_kind t.kind Unequal) (state.Term (spot 0 true w)) (λ p. goes p ts) rest e in
+    let m = expected (same_kind t.kind Equal || same_kind t.kind Unequal) (state.Term (spot 0 Right w)) (λ p. goes p ts) rest e in
     record { sign = t; left = ts; is = refl; kind = which (or_cases _ _ m.0); on = m.1 }
   where
     which : (same_kind t.kind Equal ≡ true) ⊎ (same_kind t.kind Unequal ≡ true) → Is Equal t ⊎ Is Unequal t
     which (inl h) = inl (same_kind_true t.kind Equal h)
     which (inr h) = inr (same_kind_true t.kind Unequal h)
 
-sides_back : (w : Bool) (ts rest : List Lexeme) → goes (state.Term (spot 0 false w)) ts ≡ Some rest → SidesBack w ts rest
+sides_back : (w : Bool) (ts rest : List Lexeme) → goes (state.Term (spot 0 Left w)) ts ≡ Some rest → SidesBack w ts rest
 sides_back w ts rest e =
-    let l = term_back (spot 0 false w) ts rest e in
+    let l = term_back (spot 0 Left w) ts rest e in
     let s = sign_back w l.left rest l.on in
-    let r = term_back (spot 0 true w) s.left rest s.on in
+    let r = term_back (spot 0 Right w) s.left rest s.on in
     record { body = record { left = l.tree; sign = s.sign; right = r.tree }; left = r.left; is = sides (rw s.is at l.term) s.kind r.term; on = r.on }
 
 -- one token of a kind, and what goes on behind it
@@ -93,13 +94,13 @@ close_back : {ts us rest : List Lexeme} {x : Literal} → Body ts x us → Head 
 close_back b (head {ts = left} kc e) = dot_back b kc (met state.Ended state.Done Dot refl (λ t. refl) left _ e)
 
 bare_back : {ts rest : List Lexeme} → SidesBack false ts rest → Ending ts rest
-bare_back {rest = rest} b = close_back (bare b.is) (met (state.Closed (spot 0 true false)) state.Ended Close refl (λ t. refl) b.left rest b.on)
+bare_back {rest = rest} b = close_back (bare b.is) (met (state.Closed (spot 0 Right false)) state.Ended Close refl (λ t. refl) b.left rest b.on)
 
 unwrap_back : {o : Lexeme} {ts us rest : List Lexeme} {x : Literal} → Is Open o → Sides ts x us → Head Close state.Unwrapped us rest → Ending (o ∷ ts) rest
 unwrap_back k b (head {ts = left} kc e) = close_back (wrapped k b kc) (met state.Unwrapped state.Ended Close refl (λ t. refl) left _ e)
 
 wrapped_back : {o : Lexeme} {ts rest : List Lexeme} → Is Open o → SidesBack true ts rest → Ending (o ∷ ts) rest
-wrapped_back {rest = rest} k b = unwrap_back k b.is (met (state.Closed (spot 0 true true)) state.Unwrapped Close refl (λ t. refl) b.left rest b.on)
+wrapped_back {rest = rest} k b = unwrap_back k b.is (met (state.Closed (spot 0 Right true)) state.Unwrapped Close refl (λ t. refl) b.left rest b.on)
 
 body_back : (ts rest : List Lexeme) → goes state.Body ts ≡ Some rest → Ending ts rest
 body_back [] rest e = none_some e

@@ -4,8 +4,10 @@ use Rattle.std.proofs.lemmas.Bool.{cases_Bool, cond-true, cond-false, lt-ltb}
 use Rattle.lexer.specs.Tokens.{Lexeme}
 use Rattle.lexer.specs.declared.token.Kind.{Kind}
 use Rattle.lexer.specs.declared.token.Kind.TheVariants.{Word, Variable, Open, Close, Comma, Dot, Equal}
-use Rattle.grammar.specs.Machine.{next, is_done, spot, behind}
+use Rattle.grammar.specs.Machine.{is_right, next, is_done, spot, behind}
 use Rattle.grammar.specs.Fits.{Complete, Begins}
+use Rattle.grammar.specs.declared.machine.Side.TheVariants.{Left, Right}
+use Rattle.grammar.specs.declared.machine.Side.{Side}
 use Rattle.grammar.specs.declared.machine.State.{State}
 use Rattle.grammar.specs.declared.machine.State.TheVariants as state
 use Rattle.grammar.proofs.Steps.{none_some, some_same, bind, goes, run, run_append, done_only}
@@ -54,15 +56,15 @@ abbrev after_right : Bool → List Lexeme
 after_right w = cond w (tok Close ∷ (tok Close ∷ ends)) (tok Close ∷ ends)
 
 -- behind a whole side
-abbrev after_side : Bool → Bool → List Lexeme
-after_side r w = cond r (after_right w) (tok Equal ∷ (tok Variable ∷ after_right w))
+abbrev after_side : Side → Bool → List Lexeme
+after_side r w = cond (is_right r) (after_right w) (tok Equal ∷ (tok Variable ∷ after_right w))
 
-abbrev closing : ℕ → Bool → Bool → List Lexeme
+abbrev closing : ℕ → Side → Bool → List Lexeme
 closing zero r w = after_side r w
 closing (suc d) r w = tok Close ∷ closing d r w
 
 abbrev of_body : List Lexeme
-of_body = tok Variable ∷ after_side false false
+of_body = tok Variable ∷ after_side Left false
 
 abbrev of_role_comma : List Lexeme
 of_role_comma = tok Comma ∷ of_body
@@ -78,36 +80,36 @@ finish state.NameComma = tok Comma ∷ (tok Word ∷ of_role_comma)
 finish state.Role = tok Word ∷ of_role_comma
 finish state.RoleComma = of_role_comma
 finish state.Body = of_body
-finish (state.Term s) = tok Variable ∷ closing s.depth s.right s.wrapped
-finish (state.Named s) = closing s.depth s.right s.wrapped
-finish (state.Closed s) = closing s.depth s.right s.wrapped
+finish (state.Term s) = tok Variable ∷ closing s.depth s.side s.wrapped
+finish (state.Named s) = closing s.depth s.side s.wrapped
+finish (state.Closed s) = closing s.depth s.side s.wrapped
 finish state.Unwrapped = tok Close ∷ ends
 finish state.Ended = ends
 finish state.Done = []
 
-side_finishes : (r w : Bool) → run (state.Closed (spot 0 r w)) (after_side r w) ≡ Some state.Done
-side_finishes true true = refl
-side_finishes true false = refl
-side_finishes false true = refl
-side_finishes false false = refl
+side_finishes : (r : Side) (w : Bool) → run (state.Closed (spot 0 r w)) (after_side r w) ≡ Some state.Done
+side_finishes Right true = refl
+side_finishes Right false = refl
+side_finishes Left true = refl
+side_finishes Left false = refl
 
-closed_step : (d : ℕ) (r w : Bool) → bind (behind (spot (suc d) r w) Close) (λ p. run p (closing d r w)) ≡ run (state.Closed (spot d r w)) (closing d r w)
+closed_step : (d : ℕ) (r : Side) (w : Bool) → bind (behind (spot (suc d) r w) Close) (λ p. run p (closing d r w)) ≡ run (state.Closed (spot d r w)) (closing d r w)
 closed_step d r w =
     let up : suc d - 1 ≡ d = omega arith in
     ap (λ o. bind o (λ p. run p (closing d r w))) (cond-true _ _ _ (lt-ltb 0 (suc d) (omega arith))) ∙ ap (λ k. run (state.Closed (spot k r w)) (closing d r w)) up
 
-closing_finishes : (d : ℕ) (r w : Bool) → run (state.Closed (spot d r w)) (closing d r w) ≡ Some state.Done
+closing_finishes : (d : ℕ) (r : Side) (w : Bool) → run (state.Closed (spot d r w)) (closing d r w) ≡ Some state.Done
 closing_finishes zero r w = side_finishes r w
 closing_finishes (suc d) r w =
     closed_step d r w ∙ closing_finishes d r w
 
-named_side : (r w : Bool) → run (state.Named (spot 0 r w)) (after_side r w) ≡ Some state.Done
-named_side true true = refl
-named_side true false = refl
-named_side false true = refl
-named_side false false = refl
+named_side : (r : Side) (w : Bool) → run (state.Named (spot 0 r w)) (after_side r w) ≡ Some state.Done
+named_side Right true = refl
+named_side Right false = refl
+named_side Left true = refl
+named_side Left false = refl
 
-named_finishes : (d : ℕ) (r w : Bool) → run (state.Named (spot d r w)) (closing d r w) ≡ Some state.Done
+named_finishes : (d : ℕ) (r : Side) (w : Bool) → run (state.Named (spot d r w)) (closing d r w) ≡ Some state.Done
 named_finishes zero r w = named_side r w
 named_finishes (suc d) r w =
     closed_step d r w ∙ closing_finishes d r w
@@ -120,9 +122,9 @@ finishes state.NameComma = refl
 finishes state.Role = refl
 finishes state.RoleComma = refl
 finishes state.Body = refl
-finishes (state.Term s) = closing_finishes s.depth s.right s.wrapped
-finishes (state.Named s) = named_finishes s.depth s.right s.wrapped
-finishes (state.Closed s) = closing_finishes s.depth s.right s.wrapped
+finishes (state.Term s) = closing_finishes s.depth s.side s.wrapped
+finishes (state.Named s) = named_finishes s.depth s.side s.wrapped
+finishes (state.Closed s) = closing_finishes s.depth s.side s.wrapped
 finishes state.Unwrapped = refl
 finishes state.Ended = refl
 finishes state.Done = refl

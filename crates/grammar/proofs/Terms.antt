@@ -5,7 +5,7 @@ use Rattle.lexer.specs.Tokens.{Lexeme}
 use Rattle.lexer.specs.declared.token.Kind.{Kind}
 use Rattle.lexer.specs.declared.token.Kind.TheVariants.{Word, Variable, Open, Close, Comma}
 use Rattle.grammar.specs.Kinds.{same_kind}
-use Rattle.grammar.specs.Machine.{spot, inside, behind}
+use Rattle.grammar.specs.Machine.{is_right, spot, inside, behind}
 use Rattle.grammar.specs.Syntax.{Tree, Trees, leaf, node, nil, ◌▹◌, Term, Args, variable, constant, applied, last, more}
 use Rattle.grammar.specs.declared.machine.Spot.{Spot}
 use Rattle.grammar.specs.declared.machine.State.TheVariants as state
@@ -13,14 +13,14 @@ use Rattle.grammar.proofs.Same.{same_kind_true}
 use Rattle.grammar.proofs.Steps.{none_some, bind, goes, kind_met}
 
 abbrev pub deeper : Spot → Spot
-deeper s = spot (s.depth + 1) s.right s.wrapped
+deeper s = spot (s.depth + 1) s.side s.wrapped
 
-back_up : (s : Spot) → spot (s.depth + 1 - 1) s.right s.wrapped ≡ s
-back_up s = let e : s.depth + 1 - 1 ≡ s.depth = omega arith in ap (λ d. spot d s.right s.wrapped) e
+back_up : (s : Spot) → spot (s.depth + 1 - 1) s.side s.wrapped ≡ s
+back_up s = let e : s.depth + 1 - 1 ≡ s.depth = omega arith in ap (λ d. spot d s.side s.wrapped) e
 
 -- nothing opens behind a whole term
 pub behind_open : (s : Spot) → behind s Open ≡ None
-behind_open s = cond_both (ltb 0 s.depth) _ _ (λ o. o ≡ None) (λ _. refl) (λ _. cond_both s.right _ _ (λ o. o ≡ None) (λ _. refl) (λ _. refl))
+behind_open s = cond_both (ltb 0 s.depth) _ _ (λ o. o ≡ None) (λ _. refl) (λ _. cond_both (is_right s.side) _ _ (λ o. o ≡ None) (λ _. refl) (λ _. refl))
 
 pub behind_deeper : (s : Spot) (k : Kind) → behind (deeper s) k ≡ inside (deeper s) k
 behind_deeper s k = cond-true _ _ _ (lt-ltb 0 (s.depth + 1) (omega arith))
@@ -108,7 +108,7 @@ closed_back s (t ∷ ts) rest e = by (cases_Bool (same_kind t.kind Comma))
     by : (same_kind t.kind Comma ≡ true) ⊎ (same_kind t.kind Comma ≡ false) → Goes_on s (t ∷ ts) rest
     by (inl is) = comma t ts refl (same_kind_true t.kind Comma is) (sym (ap (λ o. bind o (λ p. goes p ts)) (cond-true _ _ _ is)) ∙ within)
     by (inr other) =
-        let m = kind_met t Close (state.Closed (spot (s.depth + 1 - 1) s.right s.wrapped)) (λ p. goes p ts) rest (sym (ap (λ o. bind o (λ p. goes p ts)) (cond-false _ _ _ other)) ∙ within) in
+        let m = kind_met t Close (state.Closed (spot (s.depth + 1 - 1) s.side s.wrapped)) (λ p. goes p ts) rest (sym (ap (λ o. bind o (λ p. goes p ts)) (cond-false _ _ _ other)) ∙ within) in
         close t ts refl m.0 (sym (ap (λ q. goes (state.Closed q) ts) (back_up s)) ∙ m.1)
 
 retail : {t o : Lexeme} {ts us left : List Lexeme} {x : Tree} → ts ≡ o ∷ us → Term (t ∷ (o ∷ us)) x left → Term (t ∷ ts) x left

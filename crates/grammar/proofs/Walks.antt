@@ -7,9 +7,10 @@ use Rattle.lexer.specs.Next.{end_of}
 use Rattle.lexer.specs.declared.token.Kind.{Kind}
 use Rattle.lexer.specs.declared.token.Kind.TheVariants.{Word, Variable, Open, Close, Comma}
 use Rattle.grammar.specs.Kinds.{same_kind}
-use Rattle.grammar.specs.Machine.{next, is_done, depth_of, walk, expect, term_start, inside, outside, behind, spot}
+use Rattle.grammar.specs.Machine.{is_right, next, is_done, depth_of, walk, expect, term_start, inside, outside, behind, spot}
 use Rattle.grammar.specs.Fits.{Complete, Begins, Misfit, at_token, at_end}
 use Rattle.grammar.specs.Outcomes.{end_behind, NoFormula}
+use Rattle.grammar.specs.declared.machine.Side.TheVariants.{Left, Right}
 use Rattle.grammar.specs.declared.machine.Spot.{Spot}
 use Rattle.grammar.specs.declared.machine.State.{State}
 use Rattle.grammar.specs.declared.machine.State.TheVariants as state
@@ -38,8 +39,8 @@ behind_most s k =
     let less : s.depth - 1 ≤ m = omega arith in
     let none : 0 ≤ m = omega arith in
     cond_both (ltb 0 s.depth) (inside s k) (outside s k) (AtMost m)
-    (λ _. some_most m (same_kind k Comma) (state.Term s) _ same (expect_most m (same_kind k Close) (state.Closed (spot (s.depth - 1) s.right s.wrapped)) less))
-    (λ _. cond_both s.right _ _ (AtMost m) (λ _. expect_most m (same_kind k Close) _ (cond_both s.wrapped state.Unwrapped state.Ended (λ p. depth_of p ≤ m) (λ _. none) (λ _. none))) (λ _. expect_most m _ (state.Term (spot 0 true s.wrapped)) none))
+    (λ _. some_most m (same_kind k Comma) (state.Term s) _ same (expect_most m (same_kind k Close) (state.Closed (spot (s.depth - 1) s.side s.wrapped)) less))
+    (λ _. cond_both (is_right s.side) _ _ (AtMost m) (λ _. expect_most m (same_kind k Close) _ (cond_both s.wrapped state.Unwrapped state.Ended (λ p. depth_of p ≤ m) (λ _. none) (λ _. none))) (λ _. expect_most m _ (state.Term (spot 0 Right s.wrapped)) none))
 
 next_most : (q : State) (t : Lexeme) → AtMost (depth_of q + 1) (next q t)
 next_most state.Start t = expect_most 1 _ state.Opening (omega arith)
@@ -48,12 +49,12 @@ next_most state.Name t = expect_most 1 _ state.NameComma (omega arith)
 next_most state.NameComma t = expect_most 1 _ state.Role (omega arith)
 next_most state.Role t = expect_most 1 _ state.RoleComma (omega arith)
 next_most state.RoleComma t = expect_most 1 _ state.Body (omega arith)
-next_most state.Body t = some_most 1 (same_kind t.kind Open) (state.Term (spot 0 false true)) _ (omega arith) (start_most (spot 0 false false) t.kind)
+next_most state.Body t = some_most 1 (same_kind t.kind Open) (state.Term (spot 0 Left true)) _ (omega arith) (start_most (spot 0 Left false) t.kind)
 next_most (state.Term s) t = start_most s t.kind
 next_most (state.Named s) t =
     let m = s.depth + 1 in
     let h : m ≤ m = omega arith in
-    some_most m (same_kind t.kind Open) (state.Term (spot m s.right s.wrapped)) _ h (behind_most s t.kind)
+    some_most m (same_kind t.kind Open) (state.Term (spot m s.side s.wrapped)) _ h (behind_most s t.kind)
 next_most (state.Closed s) t = behind_most s t.kind
 next_most state.Unwrapped t = expect_most 1 _ state.Ended (omega arith)
 next_most state.Ended t = expect_most 1 _ state.Done (omega arith)

@@ -5,6 +5,8 @@ use Rattle.lexer.specs.Next.{end_of}
 use Rattle.lexer.specs.declared.token.Kind.{Kind}
 use Rattle.lexer.specs.declared.token.Kind.TheVariants.{Word, Variable, Open, Close, Comma, Dot, Equal, Unequal}
 use Rattle.grammar.specs.Kinds.{same_kind, same_bytes}
+use Rattle.grammar.specs.declared.machine.Side.{Side}
+use Rattle.grammar.specs.declared.machine.Side.TheVariants.{Left, Right}
 use Rattle.grammar.specs.declared.machine.Spot.{Spot}
 use Rattle.grammar.specs.declared.machine.State.{State}
 use Rattle.grammar.specs.declared.machine.State.TheVariants as state
@@ -12,19 +14,23 @@ use Rattle.grammar.specs.declared.machine.State.TheVariants as state
 abbrev pub expect : Bool → State → Option State
 expect met s = cond met (Some s) None
 
-abbrev pub spot : ℕ → Bool → Bool → Spot
-spot d r w = record { depth = d; right = r; wrapped = w }
+abbrev pub spot : ℕ → Side → Bool → Spot
+spot d x w = record { depth = d; side = x; wrapped = w }
+
+abbrev pub is_right : Side → Bool
+is_right Left = false
+is_right Right = true
 
 abbrev pub term_start : Spot → Kind → Option State
 term_start s k = cond (same_kind k Variable) (Some (state.Closed s)) (expect (same_kind k Word) (state.Named s))
 
 -- behind a term that stands in parentheses
 abbrev pub inside : Spot → Kind → Option State
-inside s k = cond (same_kind k Comma) (Some (state.Term s)) (expect (same_kind k Close) (state.Closed (spot (s.depth - 1) s.right s.wrapped)))
+inside s k = cond (same_kind k Comma) (Some (state.Term s)) (expect (same_kind k Close) (state.Closed (spot (s.depth - 1) s.side s.wrapped)))
 
 -- behind a whole side
 abbrev pub outside : Spot → Kind → Option State
-outside s k = cond s.right (expect (same_kind k Close) (cond s.wrapped state.Unwrapped state.Ended)) (expect (same_kind k Equal || same_kind k Unequal) (state.Term (spot 0 true s.wrapped)))
+outside s k = cond (is_right s.side) (expect (same_kind k Close) (cond s.wrapped state.Unwrapped state.Ended)) (expect (same_kind k Equal || same_kind k Unequal) (state.Term (spot 0 Right s.wrapped)))
 
 abbrev pub behind : Spot → Kind → Option State
 behind s k = cond (nat_lt 0 s.depth) (inside s k) (outside s k)
@@ -36,9 +42,9 @@ next state.Name t = expect (same_kind t.kind Word) state.NameComma
 next state.NameComma t = expect (same_kind t.kind Comma) state.Role
 next state.Role t = expect (same_kind t.kind Word) state.RoleComma
 next state.RoleComma t = expect (same_kind t.kind Comma) state.Body
-next state.Body t = cond (same_kind t.kind Open) (Some (state.Term (spot 0 false true))) (term_start (spot 0 false false) t.kind)
+next state.Body t = cond (same_kind t.kind Open) (Some (state.Term (spot 0 Left true))) (term_start (spot 0 Left false) t.kind)
 next (state.Term s) t = term_start s t.kind
-next (state.Named s) t = cond (same_kind t.kind Open) (Some (state.Term (spot (s.depth + 1) s.right s.wrapped))) (behind s t.kind)
+next (state.Named s) t = cond (same_kind t.kind Open) (Some (state.Term (spot (s.depth + 1) s.side s.wrapped))) (behind s t.kind)
 next (state.Closed s) t = behind s t.kind
 next state.Unwrapped t = expect (same_kind t.kind Close) state.Ended
 next state.Ended t = expect (same_kind t.kind Dot) state.Done

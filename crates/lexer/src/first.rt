@@ -14,6 +14,7 @@ fn block_length(text: &[u8]) -> Option<usize>
 {
     let mut n = 0;
     let mut rest = text;
+    // By hand: of `windows(2)` with `position`, the proof learns nothing of the pairs before the one that is found.
     loop {
         match rest {
             [] => return None,

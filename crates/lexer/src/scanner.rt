@@ -9,6 +9,7 @@ use crate::token::{Front, Token};
 pub fn next_token(text: &[u8], at: usize) -> Option<Token<'_>>
     ensures { Next text.now at result }
 {
+    // By place: a separator is passed over as a whole, and a token says where it stands.
     let mut place = at;
     loop {
         match first(text.get(place..)?)? {

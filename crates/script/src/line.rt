@@ -8,7 +8,7 @@ use fields::{Field, cut, number};
 use std::alloc::Global;
 
 // The first line of a script, without its line feed, and the script after it. The last line may lack its line feed.
-pub fn first_line<'a>(script: &'a [u8]) -> Field<'a>
+pub fn first_line(script: &[u8]) -> Field<'_>
     ensures { FirstLine script.now result.bytes.now result.after.now }
 {
     cut(script, b'\n').unwrap_or(Field {

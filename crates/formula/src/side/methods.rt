@@ -22,6 +22,7 @@ pub fn read_side(
     ensures { LaidOut signature.now text.now at variables.old variables.new result }
 {
     let mut side = Row::new(Node::Var(0));
+    // By place: the sign that ends a side is left to be read again.
     let mut end = at;
     while let Some(token) = next_token(text, end) {
         let place = token.place;

@@ -121,6 +121,7 @@ pub fn first_misused(signature: &Signature, text: &[u8], at: usize) -> Option<us
     ensures { result ≡ scan signature.now [] None (tokens_from (drop at text.now) at) }
 {
     let mut uses = Uses::new();
+    // By place: from behind a token, the next one is looked at as well.
     let mut place = at;
     while let Some(token) = next_token(text, place) {
         place = token.end();

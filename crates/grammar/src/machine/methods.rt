@@ -1,9 +1,9 @@
-ghost use Rattle.std.specs.Prelude.{◌≡◌, ◌+◌, ◌^◌, ◌<◌, Bool};
+ghost use Rattle.std.specs.Prelude.{◌≡◌, ◌+◌, ◌^◌, ◌<◌};
 ghost use Rattle.lexer.specs.Next.{lexeme_of};
 ghost use Rattle.grammar.specs.Outcomes.{Walked};
 ghost use Rattle.grammar.specs.Machine.{spot, term_start, inside as inside_of, outside as outside_of, behind as behind_of, next as next_of, is_done, depth_of};
 
-use super::{Spot, State};
+use super::{Side, Spot, State};
 use crate::part::Fault;
 use lexer::scanner::next_token;
 use lexer::token::{Kind, Token};
@@ -11,11 +11,11 @@ use lexer::token::{Kind, Token};
 impl Spot {
     // The left side of a literal.
     fn left(wrapped: bool) -> Spot
-        ensures { result ≡ spot 0 Bool.false wrapped }
+        ensures { result ≡ spot 0 Side.Left wrapped }
     {
         Spot {
             depth: 0,
-            right: false,
+            side: Side::Left,
             wrapped,
         }
     }
@@ -47,12 +47,12 @@ impl Spot {
     fn outside(self, kind: Kind) -> Option<State>
         ensures { result ≡ outside_of self kind }
     {
-        match kind {
-            Kind::Close if self.right && self.wrapped => Some(State::Unwrapped),
-            Kind::Close if self.right => Some(State::Ended),
-            Kind::Equal | Kind::Unequal if !self.right => Some(State::Term(Spot {
+        match (self.side, kind) {
+            (Side::Right, Kind::Close) if self.wrapped => Some(State::Unwrapped),
+            (Side::Right, Kind::Close) => Some(State::Ended),
+            (Side::Left, Kind::Equal | Kind::Unequal) => Some(State::Term(Spot {
                 depth: 0,
-                right: true,
+                side: Side::Right,
                 ..self
             })),
             _ => None,
@@ -109,6 +109,7 @@ pub fn formula_end(text: &[u8], at: usize) -> Result<usize, Fault>
     ensures { Walked text.now at result }
 {
     let mut state = State::Start;
+    // By place: where the last token ends is the answer.
     let mut end = at;
     while !state.is_done() {
         let token = next_token(text, end).ok_or(Fault { place: text.len() })?;

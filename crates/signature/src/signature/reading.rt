@@ -13,6 +13,7 @@ impl Signature {
         ensures outcome { Read text.now (lines_read result) }
         ensures once { ReadsOnce }
     {
+        // Until the others are read, the first line's symbol lies in their places.
         let (first, _) = first_line(text).ok_or(Refusal::SignatureLine(1))?;
         let mut symbols = Row::new(first);
         let mut rest = text;

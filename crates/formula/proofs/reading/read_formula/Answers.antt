@@ -4,7 +4,6 @@ use Rattle.lexer.specs.Tokens.{tokens_from}
 use Rattle.formula.specs.Roles.{role_first}
 use Rattle.formula.specs.Rows.{Row, names_in}
 use Rattle.row.specs.Items.{items}
-use Rattle.formula.proofs.Meaning.{checked_ok}
 use Rattle.formula.proofs.Tables.{names_size}
 use Rattle.formula.proofs.Concluding.{refused, unknown_symbol, large_left, large_right, fits_left, fits_right, done, never, made}
 use Rattle.formula.proofs.reading.read_formula.Goals as goal
@@ -13,9 +12,6 @@ pub returns-in_err-check_formula : goal.returns-in_err-check_formula
 returns-in_err-check_formula c =
     let p = err_from_is_err_and c.from_residual.result c.from_residual.ensures.1 in
     refused c.args.signature.now c.args.text.now c.from_residual.result _ (rw (p.1, p.2)) c.in_err-check_formula.ensures.outcome
-
-pub first_misused-requires : goal.first_misused-requires
-first_misused-requires c = (checked_ok c.in_ok-check_formula.ensures.outcome).0
 
 pub returns-in-Some : goal.returns-in-Some
 returns-in-Some c = unknown_symbol c.args.signature.now c.args.text.now c.in_ok-check_formula.ensures.outcome c.skip_tokens-body.result c.skip_tokens-body.ensures c.in-Some.place c.in-Some.ensures

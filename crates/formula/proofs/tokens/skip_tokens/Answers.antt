@@ -1,6 +1,6 @@
 use Rattle.std.proofs.Common.{◌≡◌, ℕ, ◌≤◌, List, [], length, drop, sym, ap, ◌∙◌, arith, length-drop}
 use Rattle.std.proofs.lemmas.List.{drop-drop, drop_all}
-use Rattle.lexer.specs.Tokens.{Lexeme, tokens_from}
+use Rattle.lexer.specs.Tokens.{Lexeme}
 use Rattle.formula.proofs.tokens.skip_tokens.Goals as goal
 
 -- what has given out has given out further on too
@@ -14,8 +14,3 @@ returns-in_default c =
 
 pub loop-preserved : goal.loop-preserved
 loop-preserved c = rw c.end-place.ensures (ap (drop 1) (sym c.in-Some.ensures.0 ∙ c.loop.invariant) ∙ drop-drop 1 c.loop.counter _)
-
-pub returns : goal.returns
-returns c =
-    let end : c.loop.counter ≡ c.args.n = omega arith in
-    c.loop.invariant ∙ ap (λ k. drop k (tokens_from (drop c.args.at c.args.text.now) c.args.at)) end

@@ -29,12 +29,6 @@ overflow_add-place c =
     let gap = stands c.args.text.now c.in_ok-get.field-0.now c.loop-n.place (Some (Gap c.in-Gap.n)) (search rules) (search rules) in
     omega (arith, (moved c.args.text.now c.loop-n.place _ gap).1)
 
-pub loop-n-smaller : goal.loop-n-smaller
-loop-n-smaller c =
-    let gap = stands c.args.text.now c.in_ok-get.field-0.now c.loop-n.place (Some (Gap c.in-Gap.n)) (search rules) (search rules) in
-    let m = moved c.args.text.now c.loop-n.place _ gap in
-    omega (arith, m.0, m.1)
-
 pub overflow_add-bytes : goal.overflow_add-bytes
 overflow_add-bytes c =
     let piece = stands c.args.text.now c.in_ok-get.field-0.now c.loop-n.place (Some (Piece c.in-Piece.kind c.in-Piece.n)) (search rules) (search rules) in

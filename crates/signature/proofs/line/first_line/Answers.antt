@@ -1,6 +1,6 @@
 use Rattle.std.proofs.Common.{decimal, ◌∙◌}
 use Rattle.fields.proofs.Cutting.{uncut}
-use Rattle.signature.proofs.Cuts.{flat, name_cut, arity_cut, weight_cut, line_whole}
+use Rattle.signature.proofs.Cuts.{flat, name_cut, arity_cut, weight_cut}
 use Rattle.signature.proofs.line.first_line.Goals as goal
 
 pub returns-in_err-name : goal.returns-in_err-name
@@ -28,6 +28,3 @@ returns-in_err-symbol c =
     let a = arity_cut l after ok _ _ _ c.in_ok-arity.ensures n.1 in
     let w = weight_cut l after ok _ _ _ c.in_ok-weight.ensures a.1 in
     c.in_err-symbol.ensures l ok (record { name_is = n.0; arity_is = a.0; weight_is = w.0 }))
-
-pub returns : goal.returns
-returns c = line_whole _ c.in_ok-name.ensures c.in_ok-arity.ensures c.in_ok-weight.ensures c.in_ok-symbol.ensures

@@ -13,11 +13,5 @@ returns-in_err-end c =
     let p = err_from_is_err_and c.from_residual.result c.from_residual.ensures.1 in
     record { same = refl; handed = refuses _ _ c.in-Some.first.place _ (lexeme_of c.in-Some.first) _ c.from_residual.result c.in-Some.ensures.0 c.in-Some.ensures.4 c.in_err-end.ensures (rw (p.1, p.2)) }
 
-pub slice_bounds-result-count : goal.slice_bounds-result-count
-slice_bounds-result-count c = c.in_ok-end.ensures.1
-
-pub slice_bounds-result-start : goal.slice_bounds-result-start
-slice_bounds-result-start c = c.in_ok-end.ensures.1
-
 pub returns : goal.returns
 returns c = record { same = refl; handed = hands _ _ (lexeme_of c.in-Some.first) _ c.in_ok-end.end _ c.in-Some.ensures.0 c.in-Some.ensures.4 c.in_ok-end.ensures.0 c.in_ok-end.ensures.1 refl refl }

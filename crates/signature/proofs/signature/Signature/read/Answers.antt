@@ -1,4 +1,4 @@
-use Rattle.std.proofs.Common.{rules, ◌≡◌, ◌+◌, ◌<◌, ◌≤◌, [], ◌∷◌, ◌++◌, None, length, refl, arith, map, inr, ap, append-nil, ◌∙◌}
+use Rattle.std.proofs.Common.{rules, ◌≡◌, ◌+◌, ◌<◌, ◌≤◌, [], ◌∷◌, ◌++◌, None, length, arith, map, inr, ap, append-nil, ◌∙◌}
 use Rattle.std.specs.List.{flat_map}
 use Rattle.std.proofs.lemmas.List.{length-map, length-take-le, nil_from_length}
 use Rattle.std.proofs.lemmas.Option.{MatchOption-at_none}
@@ -13,12 +13,8 @@ use Rattle.signature.proofs.Sounds.{bad_line, refused, last_well, bad_again, tex
 use Rattle.signature.proofs.Once.{once}
 use Rattle.signature.proofs.signature.Signature.read.Goals as goal
 
-pub returns-in_err-first : goal.returns-in_err-first
-returns-in_err-first c =
-    let p = err_from_is_err_and c.from_residual.result c.from_residual.ensures.1 in
-    let none : c.first_line.result ≡ None = grind arith in
-    let is : c.in_err-first.field-0.0 ≡ SignatureLine 1 = grind arith in
-    record { outcome = rw (p.1, p.2, is) (bad_line c.args.text.now c.args.text.now [] refl (λ i j d lt within. absurd (omega arith)) (omega arith) (λ e. refl) (λ l after s e. (MatchOption-at_none _ _ none c.first_line.ensures) l after (last_well [] l s) e)); once = once }
+pub returns-in_err-first-clause-once : goal.returns-in_err-first-clause-once
+returns-in_err-first-clause-once c = once
 
 pub returns-in_err-symbol : goal.returns-in_err-symbol
 returns-in_err-symbol c =
