@@ -37,7 +37,7 @@ pub fn write_term(
         return Err(Refusal::Limits);
     }
     keeps_rules(signature, cells, count)?;
-    if cell as usize >= count.len {
+    if usize::from(cell) >= count.len {
         return Err(Refusal::BankRules);
     }
     let mut text = [0; 65536];

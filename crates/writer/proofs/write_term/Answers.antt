@@ -1,4 +1,4 @@
-use Rattle.std.proofs.Common.{◌≡◌, ◌≤◌, length, drop, ◌∙◌, arith}
+use Rattle.std.proofs.Common.{◌≡◌, ◌<◌, ◌≤◌, length, drop, ◌∙◌, arith}
 use Rattle.std.proofs.lemmas.List.{length-take-le, take_at, drop_at}
 use Rattle.std.proofs.lemmas.Grind.{common_steps}
 use Rattle.writer.proofs.write_term.Goals as goal
@@ -6,7 +6,7 @@ use Rattle.writer.proofs.write_term.Goals as goal
 pub returns : goal.returns
 returns c =
     let sound = c.in_ok-keeps_rules.ensures in
-    let n = c.if-cell-count.false in
+    let n : c.args.cell < c.args.count.now.len = omega arith in
     let size = length-take-le c.args.count.now.len c.args.cells.now sound.keeps.counted in
     let r = sound.laws.reads c.args.cell (omega (arith, n, size)) in
     let len = c.in-Some.len in
