@@ -7,6 +7,7 @@ ghost use Rattle.kbo.specs.Verdicts.{by_heads, Says};
 
 use crate::weights::weight;
 use signature::signature::Signature;
+use std::cmp::Ordering;
 use subterms::variables::covers;
 use terms::pattern::Node;
 
@@ -25,15 +26,11 @@ pub fn judge(signature: &Signature, s: &[Node], t: &[Node]) -> Verdict
     if !covers(s, t) {
         return Verdict::NotAbove;
     }
-    let upper = weight(signature, s);
-    let lower = weight(signature, t);
-    if lower < upper {
-        return Verdict::Above;
+    match weight(signature, s).cmp(&weight(signature, t)) {
+        Ordering::Greater => Verdict::Above,
+        Ordering::Less => Verdict::NotAbove,
+        Ordering::Equal => compare_heads(s[0], t[0]),
     }
-    if upper < lower {
-        return Verdict::NotAbove;
-    }
-    compare_heads(s[0], t[0])
 }
 
 fn compare_heads(s: Node, t: Node) -> Verdict

@@ -1,7 +1,7 @@
 // Writes the term of a bank's cell as text into the caller's buffer.
 #![tactic(auto)]
 
-ghost use Rattle.std.specs.Prelude.{◌≡◌, ◌+◌, ◌<◌, ◌≤◌, ◌++◌, length, take, IfSome, MatchOption};
+ghost use Rattle.std.specs.Prelude.{◌≡◌, ◌+◌, ◌<◌, ◌≤◌, ◌++◌, length, take, drop, IfSome, MatchOption};
 ghost use Rattle.terms.specs.Term.{Term};
 ghost use Rattle.signature.specs.Signatures.{sig_of, names_of};
 ghost use Rattle.signature.specs.Written.{written};
@@ -22,8 +22,8 @@ mod piece;
 mod tests;
 mod walk;
 
-// A shared term can be exponentially long as text: the walk ends where the buffer would. What does not fit leaves the buffer as it
-// was, so the text is written elsewhere first.
+// A shared term can be exponentially long as text: whether it fits is found out by a walk that ends where the buffer would. One walk
+// into an array of the longest buffer's size, and a copy, was tried: a problem took a fifth longer to print.
 pub fn write_term(
     signature: &Signature,
     cells: &[Cell],
@@ -37,31 +37,57 @@ pub fn write_term(
         return Err(Refusal::Limits);
     }
     keeps_rules(signature, cells, count)?;
-    if cell as usize >= count.len {
+    if usize::from(cell) >= count.len {
         return Err(Refusal::BankRules);
     }
-    let mut text = [0; 65536];
-    let text = &mut text[..buffer.len()];
-    let Some(len) = write(signature, &cells[..count.len], cell, text) else {
-        return Err(Refusal::BufferTooShort);
-    };
-    buffer[..len].copy_from_slice(&text[..len]);
-    Ok(len)
+    let counted = &cells[..count.len];
+    let mut stack = Row::new(Frame::Whole(cell));
+    fits(signature, counted, cell, buffer.len(), &mut stack).ok_or(Refusal::BufferTooShort)?;
+    write(signature, counted, cell, buffer, &mut stack).ok_or(Refusal::BufferTooShort)
+}
+
+// Some if the cell's text has at most `limit` bytes.
+fn fits(
+    signature: &Signature,
+    cells: &[Cell],
+    cell: u16,
+    limit: usize,
+    stack: &mut Row<Frame, 2048>,
+) -> Option<()>
+    requires rules { Rules (sig_of signature.now) cells.now }
+    requires counted { cell < length cells.now }
+    requires deep { length cells.now ≤ 2048 }
+    ensures { (t : Term) → Means cells.now cell t → MatchOption result (limit < length (written (names_of signature.now) t)) (λ _. length (written (names_of signature.now) t) ≤ limit) }
+{
+    stack.clear();
+    stack.push(Frame::Whole(cell)).ok()?;
+    let mut left = limit;
+    while let Some(piece) = advance(signature, cells, stack) {
+        left = left.checked_sub(piece.len())?;
+    }
+    Some(())
 }
 
 // How many bytes the cell's text has, which stand in front of the buffer, if they all fit.
-fn write(signature: &Signature, cells: &[Cell], cell: u16, buffer: &mut [u8]) -> Option<usize>
+fn write(
+    signature: &Signature,
+    cells: &[Cell],
+    cell: u16,
+    buffer: &mut [u8],
+    stack: &mut Row<Frame, 2048>,
+) -> Option<usize>
     requires rules { Rules (sig_of signature.now) cells.now }
     requires counted { cell < length cells.now }
     requires deep { length cells.now ≤ 2048 }
     requires short { length buffer.old ≤ 65536 }
     ensures size { length buffer.new ≡ length buffer.old }
-    ensures within { IfSome result (λ r. r ≤ length buffer.old) }
+    ensures within { IfSome result (λ r. (r ≤ length buffer.old) × (drop r buffer.new ≡ drop r buffer.old)) }
     ensures text { (t : Term) → Means cells.now cell t → MatchOption result (length buffer.old < length (written (names_of signature.now) t)) (λ r. take r buffer.new ≡ written (names_of signature.now) t) }
 {
-    let mut stack = Row::from_slice(&[Frame::Whole(cell)], Frame::Whole(cell))?;
+    stack.clear();
+    stack.push(Frame::Whole(cell)).ok()?;
     let mut len = 0;
-    while let Some(piece) = advance(signature, cells, &mut stack) {
+    while let Some(piece) = advance(signature, cells, stack) {
         len = put(buffer, len, piece.as_slice())?;
     }
     Some(len)
@@ -71,7 +97,7 @@ fn write(signature: &Signature, cells: &[Cell], cell: u16, buffer: &mut [u8]) ->
 fn put(buffer: &mut [u8], at: usize, bytes: &[u8]) -> Option<usize>
     requires { at ≤ length buffer.old }
     ensures size { length buffer.new ≡ length buffer.old }
-    ensures does { MatchOption result (length buffer.old < at + length bytes.now) (λ end. (end ≡ at + length bytes.now) × (end ≤ length buffer.old) × (take end buffer.new ≡ take at buffer.old ++ bytes.now)) }
+    ensures does { MatchOption result (length buffer.old < at + length bytes.now) (λ end. (end ≡ at + length bytes.now) × (end ≤ length buffer.old) × (take end buffer.new ≡ take at buffer.old ++ bytes.now) × (drop end buffer.new ≡ drop end buffer.old)) }
 {
     let end = at + bytes.len();
     if end > buffer.len() {

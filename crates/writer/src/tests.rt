@@ -45,18 +45,10 @@ fn writes_terms(rt: HostRuntime) -> Result<(), Fail> {
 }
 
 fn refused(cell: u16, count: usize, room: usize) -> Option<Refusal> {
-    let Ok(signature) = Signature::read(b"a\t0\t1\nf\t2\t1\n") else {
-        return None;
-    };
+    let signature = Signature::read(b"a\t0\t1\nf\t2\t1\n").ok()?;
     let mut buffer = [b'.'; 24];
     let count = Count { len: count };
-    if room > 24 {
-        return None;
-    }
-    match write_term(&signature, &cells(), &count, cell, &mut buffer[..room]) {
-        Ok(_) => None,
-        Err(e) => Some(e),
-    }
+    write_term(&signature, &cells(), &count, cell, buffer.get_mut(..room)?).err()
 }
 
 #[test]

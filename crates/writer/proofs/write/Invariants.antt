@@ -1,4 +1,4 @@
-use Rattle.std.proofs.Common.{◌≡◌, ◌-◌, ◌≤◌, ◌++◌, ℕ, List, length, take}
+use Rattle.std.proofs.Common.{◌≡◌, ◌-◌, ◌≤◌, ◌++◌, ℕ, List, length, take, drop}
 use Rattle.terms.specs.Term.{Term}
 use Rattle.signature.specs.Signatures.{names_of}
 use Rattle.signature.specs.Written.{written}
@@ -13,6 +13,7 @@ invariant-loop-piece l =
     × Left (names_of l.signature) l.cells (frames l.stack) rest
     × (l.len ≤ length l.buffer)
     × (length l.buffer ≡ length l.initial.buffer)
+    × (drop l.len l.buffer ≡ drop l.len l.initial.buffer)
     × ((t : Term) → Means l.cells l.cell t → take l.len l.buffer ++ rest ≡ written (names_of l.signature) t)
 
 abbrev pub decreases-loop-piece : goal.decreases-loop-piece
