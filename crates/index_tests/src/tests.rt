@@ -164,7 +164,7 @@ fn refuses<I: Index>(rt: &impl Abort, index: &I) {
 }
 
 // All that an exact index is asked.
-fn serves<I: ExactIndex>(rt: &impl Abort, mut index: I) -> Result<(), Fail> {
+fn serves<I: ExactIndex + Drop>(rt: &impl Abort, mut index: I) -> Result<(), Fail> {
     refuses(rt, &index);
     exercise(rt, &mut index)?;
     index.clear();
