@@ -10,7 +10,6 @@ use super::DiscriminationTree;
 use bank::cell::Cell;
 use discrimination::walk::walk;
 use entries::Entries;
-use index::capacity::{Exactly, Limited};
 use index::index::Index;
 use lent_list::Count;
 use refusal::Refusal;
@@ -37,9 +36,9 @@ impl DiscriminationTree {
 }
 
 impl Index for DiscriminationTree {
-    type Limit = Exactly<64>;
+    const CAPACITY: usize = 64;
 
-    const CAPACITY: Exactly<64> = Exactly { n: 64 };
+    ghost CAPACITY = { 64 };
 
     ghost stored = { λ s. map_of s.entries };
 

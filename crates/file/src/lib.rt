@@ -6,7 +6,6 @@ ghost use Rattle.index.specs.Maps.{Inserted, Removed};
 ghost use Rattle.file.specs.Kept.{Kept, Free, equations};
 
 use entries::Entries;
-use index::capacity::Limited;
 use index::index::Index;
 use reduction::oriented::Oriented;
 use refusal::Refusal;
@@ -32,12 +31,12 @@ impl<I: Index> File<I> {
 
     // A taken number is refused before a full index.
     pub fn check_free(&self, number: u16) -> Result<(), Refusal>
-        ensures { Kept I.Index.stored self.now → Free (equations I.Index.stored self.now) (length (I.Index.numbers self.now.index)) I.Limit.most number result }
+        ensures { Kept I.Index.stored self.now → Free (equations I.Index.stored self.now) (length (I.Index.numbers self.now.index)) I.Index.CAPACITY number result }
     {
         if self.lowers.get(number).is_ok() {
             return Err(Refusal::NumberTaken);
         }
-        if self.lowers.len() >= I::CAPACITY.get() {
+        if self.lowers.len() >= I::CAPACITY {
             return Err(Refusal::CapacityReached);
         }
         Ok(())
@@ -45,7 +44,7 @@ impl<I: Index> File<I> {
 
     pub fn insert(&mut self, number: u16, rule: &Oriented) -> Result<(), Refusal>
         ensures kept { Kept I.Index.stored self.old → Kept I.Index.stored self.new }
-        ensures inserted { Kept I.Index.stored self.old → Inserted (equations I.Index.stored self.old) (length (I.Index.numbers self.old.index)) I.Limit.most number rule.now (equations I.Index.stored self.new) result }
+        ensures inserted { Kept I.Index.stored self.old → Inserted (equations I.Index.stored self.old) (length (I.Index.numbers self.old.index)) I.Index.CAPACITY number rule.now (equations I.Index.stored self.new) result }
     {
         self.index.insert(number, &rule.higher)?;
         self.lowers.insert(number, &rule.lower)

@@ -37,9 +37,9 @@ impl<I> Filter<I> {
 }
 
 impl<I: Index> Index for Filter<I> {
-    type Limit = I::Limit;
+    const CAPACITY: usize = I::CAPACITY;
 
-    const CAPACITY: I::Limit = I::CAPACITY;
+    ghost CAPACITY = { I.Index.CAPACITY };
 
     ghost stored = { λ s. I.Index.stored s.inner };
 

@@ -5,7 +5,6 @@ ghost use Rattle.signature.specs.Signatures.{sig_of};
 ghost use Rattle.index.specs.Questions.{Asked, Answered};
 ghost use Rattle.index.specs.Found.{Generalizations};
 
-use crate::capacity::Limited;
 use crate::index::Index;
 use crate::question::check_question;
 use bank::cell::Cell;
@@ -17,7 +16,7 @@ pub trait ExactIndex: Index {
     // As `retrieve` is asked, and exact.
     fn retrieve_exact(&self, bank: &[Cell], cell: u16, list: &mut [u16], found: &mut Count)
         ensures within { found.new.len ≤ length list.new }
-        ensures finds { (S : Sig) → Asked S bank.now cell Self.Limit.most list.old → Generalizations (Self.Index.stored self.now) bank.now cell (take found.new.len list.new) };
+        ensures finds { (S : Sig) → Asked S bank.now cell Self.CAPACITY list.old → Generalizations (Self.Index.stored self.now) bank.now cell (take found.new.len list.new) };
 
     // As `candidates` is asked, and exact.
     fn generalizations(
@@ -29,16 +28,9 @@ pub trait ExactIndex: Index {
         list: &mut [u16],
         found: &mut Count,
     ) -> Result<(), Refusal>
-        ensures { Answered (sig_of signature.now) cells.now count.now.len cell Self.Limit.most list.old found.old.len list.new found.new.len (Generalizations (Self.Index.stored self.now)) result }
+        ensures { Answered (sig_of signature.now) cells.now count.now.len cell Self.CAPACITY list.old found.old.len list.new found.new.len (Generalizations (Self.Index.stored self.now)) result }
     {
-        check_question(
-            signature,
-            cells,
-            count,
-            cell,
-            list.len(),
-            Self::CAPACITY.get(),
-        )?;
+        check_question(signature, cells, count, cell, list.len(), Self::CAPACITY)?;
         self.retrieve_exact(&cells[..count.len], cell, list, found);
         Ok(())
     }

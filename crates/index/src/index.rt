@@ -7,7 +7,6 @@ ghost use Rattle.index.specs.Maps.{Stores, Inserted, Removed, Told};
 ghost use Rattle.index.specs.Questions.{Asked, Answered};
 ghost use Rattle.index.specs.Found.{Candidates};
 
-use crate::capacity::Limited;
 use crate::question::check_question;
 use bank::cell::Cell;
 use lent_list::Count;
@@ -16,10 +15,10 @@ use signature::signature::Signature;
 use terms::pattern::Pattern;
 
 pub trait Index {
-    type Limit: Limited + Copy;
-
     // How many patterns there is room for, always: from 1 to 128.
-    const CAPACITY: Self::Limit;
+    const CAPACITY: usize;
+
+    ghost CAPACITY: { ℕ };
 
     // The pattern under a number.
     ghost stored: { Self → ℕ → Option Pattern };
@@ -31,7 +30,7 @@ pub trait Index {
         ensures { (n : ℕ) → stored self.new n ≡ None };
 
     fn insert(&mut self, number: u16, pattern: &Pattern) -> Result<(), Refusal>
-        ensures { Inserted (stored self.old) (length (numbers self.old)) Self.Limit.Limited.most number pattern.now (stored self.new) result };
+        ensures { Inserted (stored self.old) (length (numbers self.old)) CAPACITY number pattern.now (stored self.new) result };
 
     fn remove(&mut self, number: u16) -> Result<(), Refusal>
         ensures { Removed (stored self.old) number (stored self.new) result };
@@ -42,7 +41,7 @@ pub trait Index {
     // The question as a run asks it, of counted cells that it knows to keep the rules of a bank.
     fn retrieve(&self, bank: &[Cell], cell: u16, list: &mut [u16], found: &mut Count)
         ensures within { found.new.len ≤ length list.new }
-        ensures finds { (S : Sig) → Asked S bank.now cell Self.Limit.Limited.most list.old → Candidates (stored self.now) bank.now cell (take found.new.len list.new) };
+        ensures finds { (S : Sig) → Asked S bank.now cell CAPACITY list.old → Candidates (stored self.now) bank.now cell (take found.new.len list.new) };
 
     // The same question of a bank of any content.
     fn candidates(
@@ -54,25 +53,18 @@ pub trait Index {
         list: &mut [u16],
         found: &mut Count,
     ) -> Result<(), Refusal>
-        ensures { Answered (sig_of signature.now) cells.now count.now.len cell Self.Limit.Limited.most list.old found.old.len list.new found.new.len (Candidates (stored self.now)) result }
+        ensures { Answered (sig_of signature.now) cells.now count.now.len cell CAPACITY list.old found.old.len list.new found.new.len (Candidates (stored self.now)) result }
     {
-        check_question(
-            signature,
-            cells,
-            count,
-            cell,
-            list.len(),
-            Self::CAPACITY.get(),
-        )?;
+        check_question(signature, cells, count, cell, list.len(), Self::CAPACITY)?;
         self.retrieve(&cells[..count.len], cell, list, found);
         Ok(())
     }
 
-    ghost least: { 1 ≤ Self.Limit.Limited.most };
+    ghost least: { 1 ≤ CAPACITY };
 
-    ghost most: { Self.Limit.Limited.most ≤ 128 };
+    ghost most: { CAPACITY ≤ 128 };
 
     ghost stores: { (s : Self) → Stores (stored s) (numbers s) };
 
-    ghost fits: { (s : Self) → length (numbers s) ≤ Self.Limit.Limited.most };
+    ghost fits: { (s : Self) → length (numbers s) ≤ CAPACITY };
 }

@@ -2,7 +2,6 @@
 #![tactic(auto)]
 
 pub mod agree;
-pub mod capacity;
 pub mod exact;
 pub mod index;
 pub mod question;

@@ -2,7 +2,6 @@ use bank::cell::Cell;
 use discrimination_tree::DiscriminationTree;
 use filter::Filter;
 use index::agree::agree;
-use index::capacity::Limited;
 use index::exact::ExactIndex;
 use index::index::Index;
 use lent_list::Count;
@@ -57,7 +56,7 @@ fn cells() -> [Cell; 6] {
 // Filled, overflowed, emptied in part and filled again.
 fn exercise<I: Index>(rt: &impl Abort, index: &mut I) -> Result<(), Fail> {
     let pattern = Pattern::variable(0).ok_or("no pattern")?;
-    let capacity = I::CAPACITY.get().min(128) as u16;
+    let capacity = I::CAPACITY.min(128) as u16;
     for n in 0..capacity {
         assert_eq!(rt; index.insert(n, &pattern), Ok(()));
     }
@@ -152,7 +151,7 @@ fn refuses<I: Index>(rt: &impl Abort, index: &I) {
     assert_eq!(rt; refusal(index, &[], 0, 0, 128), Some(Refusal::Limits));
     assert_eq!(rt; refusal(index, &large, 1, 0, 128), Some(Refusal::Limits));
     assert_eq!(rt;
-        refusal(index, &broken, 1, 0, I::CAPACITY.get().saturating_sub(1)),
+        refusal(index, &broken, 1, 0, I::CAPACITY.saturating_sub(1)),
         Some(Refusal::Limits)
     );
     assert_eq!(rt;
@@ -164,7 +163,7 @@ fn refuses<I: Index>(rt: &impl Abort, index: &I) {
 }
 
 // All that an exact index is asked.
-fn serves<I: ExactIndex>(rt: &impl Abort, mut index: I) -> Result<(), Fail> {
+fn serves<I: ExactIndex + Drop>(rt: &impl Abort, mut index: I) -> Result<(), Fail> {
     refuses(rt, &index);
     exercise(rt, &mut index)?;
     index.clear();

@@ -13,7 +13,6 @@ ghost use Rattle.std.proofs.Common.{rules};
 
 use bank::cell::Cell;
 use entries::{Entries, Entry};
-use index::capacity::{Exactly, Limited};
 use index::exact::ExactIndex;
 use index::index::Index;
 use lent_list::{Count, List};
@@ -37,9 +36,9 @@ impl PlainList {
 }
 
 impl Index for PlainList {
-    type Limit = Exactly<128>;
+    const CAPACITY: usize = 128;
 
-    const CAPACITY: Exactly<128> = Exactly { n: 128 };
+    ghost CAPACITY = { 128 };
 
     ghost stored = { λ s. map_of s.entries };
 

@@ -7,7 +7,6 @@ ghost use Rattle.session.specs.Pasts.{FileAfter, Determined};
 ghost use Rattle.file.specs.Kept.{equations};
 
 use file::File;
-use index::capacity::Limited;
 use index::exact::ExactIndex;
 use index::index::Index;
 use order::ReductionOrder;

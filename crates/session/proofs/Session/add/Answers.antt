@@ -33,7 +33,7 @@ returns-in_err-check_free g c =
     let in-range = c.in_ok-number.ensures in
     add_refuses _ _ _ _ c.args.self.now _ _ c.in_err-check_free.field-0.0 _ (rw (p.1, p.2))
     (λ k. AddRefused.no_place (record { called = record { unsealed = c.if-self.false; range = in-range.0 }; read = c.in_ok-equation.ensures.outcome }) c.in_ok-check_rule.ensures
-    (free_at g.I.Index.stored g.I.Index.numbers c.args.self.now.file g.I.Limit.Limited.most c.in_ok-number.number _ (Err c.in_err-check_free.field-0.0) in-range.1 (c.in_err-check_free.ensures k.paired)))
+    (free_at g.I.Index.stored g.I.Index.numbers c.args.self.now.file g.I.Index.CAPACITY c.in_ok-number.number _ (Err c.in_err-check_free.field-0.0) in-range.1 (c.in_err-check_free.ensures k.paired)))
 
 pub returns-in_err-rule : goal.returns-in_err-rule
 returns-in_err-rule g c =
@@ -42,7 +42,7 @@ returns-in_err-rule g c =
     let no = c.in_err-rule.ensures in
     add_refuses _ _ _ _ c.args.self.now _ _ _ _ (rw (p.1, p.2, no.1))
     (λ k. AddRefused.unordered (record { called = record { unsealed = c.if-self.false; range = in-range.0 }; read = c.in_ok-equation.ensures.outcome }) c.in_ok-check_rule.ensures
-    (free_at g.I.Index.stored g.I.Index.numbers c.args.self.now.file g.I.Limit.Limited.most c.in_ok-number.number _ (Ok tt) in-range.1 (c.in_ok-check_free.ensures k.paired)) no.0)
+    (free_at g.I.Index.stored g.I.Index.numbers c.args.self.now.file g.I.Index.CAPACITY c.in_ok-number.number _ (Ok tt) in-range.1 (c.in_ok-check_free.ensures k.paired)) no.0)
 
 pub returns : goal.returns
 returns g c =

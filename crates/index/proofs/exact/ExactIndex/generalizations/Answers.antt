@@ -3,5 +3,5 @@ use Rattle.index.proofs.exact.ExactIndex.generalizations.Goals as goal
 
 pub returns : goal.returns
 returns g c =
-    let allowed = at_capacity _ _ _ _ _ _ _ c.get.ensures c.in_ok-check_question.ensures in
+    let allowed = at_capacity _ _ _ _ _ _ _ c.CAPACITY.ensures c.in_ok-check_question.ensures in
     (allowed, c.retrieve_exact.ensures.within, c.retrieve_exact.ensures.finds _ (asked _ _ _ _ _ _ allowed))
