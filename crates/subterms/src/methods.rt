@@ -7,7 +7,6 @@ ghost use Rattle.subterms.specs.Places.{at, arguments};
 ghost use Rattle.subterms.specs.Rows.{row_of, places, ArgumentsAt};
 
 use super::{Arguments, Subterms};
-use std::array;
 use terms::pattern::{Node, Pattern};
 
 impl Subterms {
@@ -16,9 +15,14 @@ impl Subterms {
         ensures { row_of result ≡ nodes_of pattern.now }
     {
         let nodes = pattern.nodes();
+        let mut ends = [0; 32];
+        // By index: `array::from_fn` also fills the places past the row, and cost the Knuth-Bendix order two fifths more.
+        for p in 0..nodes.len() {
+            ends[p] = end(nodes, p);
+        }
         Subterms {
             pattern: *pattern,
-            ends: array::from_fn(|p| end(nodes, p)),
+            ends,
         }
     }
 
