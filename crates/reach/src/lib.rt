@@ -17,6 +17,7 @@ pub fn mark_reached(bank: &[Cell], root: u16, marks: &mut [bool])
         return;
     }
     marks[root] = true;
+    // By place: the marks that lie ahead are still being added.
     for k in (0..root + 1).rev() {
         if marks[k] {
             mark_arguments(marks, bank[k]);
@@ -44,6 +45,7 @@ fn mark_all(marks: &mut [bool], cells: &[u16])
     ensures { Joined marks.old cells.now marks.new }
 {
     for cell in cells {
+        // By place: what is written through `get_mut` was not found again in the slice by the proof.
         let at = *cell as usize;
         if at < marks.len() {
             marks[at] = true;

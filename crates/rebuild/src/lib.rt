@@ -39,6 +39,7 @@ pub fn rebuild(
     if root >= marks.len() || root >= forms.len() {
         return None;
     }
+    // By place: each form is read by the later ones.
     for k in 0..root + 1 {
         forms[k] = form(cells, count, k, change, marks, forms)?;
     }

@@ -29,6 +29,7 @@ pub fn next_redex<I: ExactIndex>(
     if root >= bank.len() || root >= marks.len() || root >= settled.len() {
         return None;
     }
+    // By place: the cell's number is what is sought.
     for k in 0..root + 1 {
         if marks[k] && !settled[k] {
             let cell = k as u16;
