@@ -60,6 +60,7 @@ impl<'a> TakeBack<'a> {
         ensures grew { self.old.count.now.len ≤ length cells.old → Grew cells.old self.old.count.now.len cells.new self.new.count.now.len }
         ensures does { Rebuilds cells.old self.old.count.now.len root change.replaced change.put_in marks.now 2048 cells.new self.new.count.now.len result }
     {
+        // One for each cell that a bank can have: a step takes no memory from elsewhere.
         let mut forms = [0; 2048];
         rebuild(cells, &mut *self.count, root, change, marks, &mut forms)
     }

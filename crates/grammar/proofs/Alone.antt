@@ -17,7 +17,7 @@ use Rattle.grammar.specs.Kinds.{code, same_kind}
 use Rattle.grammar.specs.Fits.{Complete}
 use Rattle.grammar.specs.Machine.{is_right, next, is_done, expect, spot, term_start, inside, outside, behind}
 use Rattle.grammar.specs.Outcomes.{end_behind}
-use Rattle.grammar.specs.declared.machine.Side.TheVariants.{Left, Right}
+use Rattle.terms.specs.declared.side.Side.TheVariants.{Left, Right}
 use Rattle.grammar.specs.declared.machine.Spot.{Spot}
 use Rattle.grammar.specs.declared.machine.State.{State}
 use Rattle.grammar.specs.declared.machine.State.TheVariants as state

@@ -7,7 +7,7 @@ use Rattle.lexer.specs.declared.token.Kind.TheVariants.{Word, Open, Close, Comma
 use Rattle.grammar.specs.Kinds.{same_kind, same_bytes}
 use Rattle.grammar.specs.Machine.{expect, spot, next, term_start, is_done}
 use Rattle.grammar.specs.Syntax.{Literal, Sides, sides, Body, bare, wrapped, Parsed, Formula, formula, Is}
-use Rattle.grammar.specs.declared.machine.Side.TheVariants.{Left, Right}
+use Rattle.terms.specs.declared.side.Side.TheVariants.{Left, Right}
 use Rattle.grammar.specs.declared.machine.State.{State}
 use Rattle.grammar.specs.declared.machine.State.TheVariants as state
 use Rattle.std.proofs.lemmas.Slice.Eq.{bytes_eq-Decides}

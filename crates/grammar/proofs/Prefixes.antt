@@ -6,8 +6,8 @@ use Rattle.lexer.specs.declared.token.Kind.{Kind}
 use Rattle.lexer.specs.declared.token.Kind.TheVariants.{Word, Variable, Open, Close, Comma, Dot, Equal}
 use Rattle.grammar.specs.Machine.{is_right, next, is_done, spot, behind}
 use Rattle.grammar.specs.Fits.{Complete, Begins}
-use Rattle.grammar.specs.declared.machine.Side.TheVariants.{Left, Right}
-use Rattle.grammar.specs.declared.machine.Side.{Side}
+use Rattle.terms.specs.declared.side.Side.TheVariants.{Left, Right}
+use Rattle.terms.specs.declared.side.Side.{Side}
 use Rattle.grammar.specs.declared.machine.State.{State}
 use Rattle.grammar.specs.declared.machine.State.TheVariants as state
 use Rattle.grammar.proofs.Steps.{none_some, some_same, bind, goes, run, run_append, done_only}

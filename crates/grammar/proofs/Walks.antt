@@ -10,7 +10,7 @@ use Rattle.grammar.specs.Kinds.{same_kind}
 use Rattle.grammar.specs.Machine.{is_right, next, is_done, depth_of, walk, expect, term_start, inside, outside, behind, spot}
 use Rattle.grammar.specs.Fits.{Complete, Begins, Misfit, at_token, at_end}
 use Rattle.grammar.specs.Outcomes.{end_behind, NoFormula}
-use Rattle.grammar.specs.declared.machine.Side.TheVariants.{Left, Right}
+use Rattle.terms.specs.declared.side.Side.TheVariants.{Left, Right}
 use Rattle.grammar.specs.declared.machine.Spot.{Spot}
 use Rattle.grammar.specs.declared.machine.State.{State}
 use Rattle.grammar.specs.declared.machine.State.TheVariants as state

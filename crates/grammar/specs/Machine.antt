@@ -5,8 +5,8 @@ use Rattle.lexer.specs.Next.{end_of}
 use Rattle.lexer.specs.declared.token.Kind.{Kind}
 use Rattle.lexer.specs.declared.token.Kind.TheVariants.{Word, Variable, Open, Close, Comma, Dot, Equal, Unequal}
 use Rattle.grammar.specs.Kinds.{same_kind, same_bytes}
-use Rattle.grammar.specs.declared.machine.Side.{Side}
-use Rattle.grammar.specs.declared.machine.Side.TheVariants.{Left, Right}
+use Rattle.terms.specs.declared.side.Side.{Side}
+use Rattle.terms.specs.declared.side.Side.TheVariants.{Left, Right}
 use Rattle.grammar.specs.declared.machine.Spot.{Spot}
 use Rattle.grammar.specs.declared.machine.State.{State}
 use Rattle.grammar.specs.declared.machine.State.TheVariants as state

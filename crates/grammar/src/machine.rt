@@ -1,14 +1,9 @@
 // The states of reading a formula, token by token.
+use terms::side::Side;
+
 mod methods;
 
 pub use methods::formula_end;
-
-// The sides of a literal.
-#[derive(Clone, Copy)]
-pub enum Side {
-    Left,
-    Right,
-}
 
 // Where in the body a term stands: in how many parentheses, on which side, and whether the literal is in parentheses.
 #[derive(Clone, Copy)]

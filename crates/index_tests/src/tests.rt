@@ -33,6 +33,7 @@ const X: Node = Node::Var(0);
 
 const Y: Node = Node::Var(1);
 
+// Stands in matching too: a crate for two short helpers would be more than they are.
 fn app(symbol: u8, arity: u8, first: u16, second: u16) -> Cell {
     Cell::App {
         symbol,

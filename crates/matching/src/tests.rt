@@ -21,6 +21,7 @@ const X: Node = Node::Var(0);
 
 const Y: Node = Node::Var(15);
 
+// Stands in index_tests too: a crate for two short helpers would be more than they are.
 fn app(symbol: u8, arity: u8, first: u16, second: u16) -> Cell {
     Cell::App {
         symbol,

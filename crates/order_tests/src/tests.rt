@@ -31,7 +31,7 @@ fn pattern(signature: &Signature, text: &[u8]) -> Option<Pattern> {
     Pattern::new(nodes.get(..text.len())?)
 }
 
-// '>' where s is above t, '<' where t is above s, '?' where neither is.
+// '>' where s is above t, '<' where t is above s, '?' where neither is: a letter each, so that three answers are one text.
 fn turned<O: ReductionOrder>(order: &O, signature: &Signature, s: &Pattern, t: &Pattern) -> u8 {
     match orient(order, signature, s, t) {
         Some(Side::Left) => b'>',

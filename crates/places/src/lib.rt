@@ -39,6 +39,7 @@ pub fn line_place(text: &[u8], line: usize) -> Option<Place>
     if line == 0 {
         return None;
     }
+    // The line feeds are counted up to the place that is the answer.
     let mut n = 1;
     for (at, byte) in text.iter().enumerate() {
         if n == line {

@@ -1,6 +1,9 @@
 // How refusals, formulas and numbers are printed.
 #![tactic(auto)]
 
+ghost use Rattle.std.specs.Prelude.{◌≡◌, Ok, Some, None, IfOk, IfSome, MatchResult};
+ghost use Rattle.sides.specs.Rules.{Texts};
+
 use formula::equation::Equation;
 use refusal::Refusal;
 use shown::Equality;
@@ -16,7 +19,9 @@ pub fn print_refusal(rt: &HostRuntime, refusal: Refusal) -> io::Result<()> {
 }
 
 // What there is to show; a refusal is printed in its place.
-pub fn or_refusal<T: Drop>(rt: &HostRuntime, written: Result<T, Fault>) -> io::Result<Option<T>> {
+pub fn or_refusal<T: Drop>(rt: &HostRuntime, written: Result<T, Fault>) -> io::Result<Option<T>>
+    ensures { MatchResult written (λ it. result ≡ Ok (Some it)) (λ _. IfOk result (λ o. o ≡ None)) }
+{
     match written {
         Ok(it) => Ok(Some(it)),
         Err(Fault::Refused(refusal)) => {
@@ -32,7 +37,9 @@ pub fn sides_of(
     rt: &HostRuntime,
     signature: &Signature,
     equation: &Equation,
-) -> io::Result<Option<Sides>> {
+) -> io::Result<Option<Sides>>
+    ensures { IfOk result (λ o. IfSome o (λ s. Texts signature.now equation.now s)) }
+{
     or_refusal(rt, write_sides(rt.alloc(), signature, equation))
 }
 

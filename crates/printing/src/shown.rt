@@ -1,4 +1,7 @@
 // Bytes of any content as text: one character for each byte, so that columns stay columns.
+ghost use Rattle.std.specs.Prelude.{Some};
+ghost use Rattle.printing.specs.Words.{higher_text};
+
 use formula::equation::Sign;
 use sides::Sides;
 use std::fmt;
@@ -80,6 +83,8 @@ impl<'a> fmt::Display for Equality<'a> {
 pub struct Higher(pub Option<Side>);
 
 impl fmt::Display for Higher {
+    ghost output = { λ h. Some (higher_text h.0) };
+
     fn fmt<W: fmt::Write>(&self, f: &mut fmt::Formatter<W>) -> fmt::Result {
         match self.0 {
             Some(side) => write!(f, "the {side} side is higher"),

@@ -34,6 +34,7 @@ pub fn run_goal<I: ExactIndex>(
     check_room(cells, trace)?;
     let (left, right) = enter_both(signature, left, right, cells, count)?;
     steps.len = 0;
+    // One for each cell that a bank can have: a run takes no memory from elsewhere.
     let mut settled = [false; 2048];
     let left = run_side(
         index,

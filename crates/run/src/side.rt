@@ -63,6 +63,7 @@ fn take_turn<I: ExactIndex>(
     if count.len > cells.len() {
         return Err(Outcome::NoRoom);
     }
+    // One for each cell that a bank can have: a run takes no memory from elsewhere.
     let mut marks = [false; 2048];
     mark_reached(&cells[..count.len], root, &mut marks);
     let redex = next_redex(index, &cells[..count.len], root, &marks, settled);

@@ -34,6 +34,7 @@ pub fn turn<O: ReductionOrder>(
 ) -> Result<Oriented, Refusal>
     ensures { Turns (O.ReductionOrder.above order.now signature.now) equation.now result }
 {
+    // Three arms, each an answer of its own.
     match orient(order, signature, &equation.left, &equation.right) {
         Some(Side::Left) => Ok(Oriented {
             higher: equation.left,

@@ -12,7 +12,7 @@ mod methods;
 mod next;
 pub mod variables;
 
-// The subterm at place p ends before place ends[p].
+// The subterm at place p ends before place ends[p]. The ends stand beside the nodes, which are handed out as slices of the pattern's own row.
 #[derive(Clone, Copy)]
 pub struct Subterms {
     pattern: Pattern,

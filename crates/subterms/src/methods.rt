@@ -83,6 +83,7 @@ fn end(row: &[Node], p: usize) -> usize
     requires { Whole row.now }
     ensures { p < length row.now → result ≡ p + cells (at row.now p) }
 {
+    // By place, since the place where the walk stops is the answer.
     let mut open: usize = 1;
     for i in p..row.len() {
         if open == 0 {

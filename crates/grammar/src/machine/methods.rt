@@ -3,10 +3,11 @@ ghost use Rattle.lexer.specs.Next.{lexeme_of};
 ghost use Rattle.grammar.specs.Outcomes.{Walked};
 ghost use Rattle.grammar.specs.Machine.{spot, term_start, inside as inside_of, outside as outside_of, behind as behind_of, next as next_of, is_done, depth_of};
 
-use super::{Side, Spot, State};
+use super::{Spot, State};
 use crate::part::Fault;
 use lexer::scanner::next_token;
 use lexer::token::{Kind, Token};
+use terms::side::Side;
 
 impl Spot {
     // The left side of a literal.

@@ -18,7 +18,7 @@ impl Trie {
         self.len = 0;
     }
 
-    // Adds the pattern's row with its number, unless it is there or 64 rows are.
+    // Adds the pattern's row with its number, unless it is there or 64 rows are; whether it did, as of a set.
     pub fn insert(&mut self, pattern: &Pattern, number: u16) -> bool
         ensures { Inserted (strings_of self.old) (string_of pattern.now number) (strings_of self.new) result }
     {
@@ -35,7 +35,7 @@ impl Trie {
         true
     }
 
-    // Takes the pattern's row with its number out, and gives its nodes back.
+    // Takes the pattern's row with its number out, and gives its nodes back; whether it was there, as of a set.
     pub fn remove(&mut self, pattern: &Pattern, number: u16) -> bool
         ensures { Removed (strings_of self.old) (string_of pattern.now number) (strings_of self.new) result }
     {

@@ -41,6 +41,7 @@ pub fn seek(nodes: &[Branch], root: Option<u16>, row: &[Node], number: u16) -> R
 {
     let mut link = Link::Root;
     let mut cut = Link::Root;
+    // How many labels were met: a turn to the right meets none.
     let mut at = 0;
     while let Some(v) = follow(nodes, root, link) {
         let branch = nodes[v as usize];
