@@ -12,6 +12,8 @@ use signature::signature::Signature;
 use std::io;
 
 pub mod shown;
+#[cfg(test)]
+mod tests;
 
 pub fn print_refusal(rt: &HostRuntime, refusal: Refusal) -> io::Result<()> {
     let number = refusal.number();
