@@ -82,3 +82,6 @@ moved es i d li o =
           let parts : es ≡ (take i front ++ x ∷ back) ++ l ∷ [] = all ∙ ap (λ zs. zs ++ l ∷ []) cut in
           subst (λ zs. Loses es zs x.number) (sym put) (subst (λ zs. Loses zs (take i front ++ l ∷ back) x.number) (sym parts) (moves (take i front) x back l (subst (λ zs. Once (numbers zs)) parts o)))
     ]
+
+pub once_front : (k : ℕ) (es : List Entry) → Once (numbers es) → Once (numbers (take k es))
+once_front k es o = once_left (numbers (take k es)) (numbers (drop k es)) (subst Once (ap numbers (sym (take-append-drop k es)) ∙ numbers_append (take k es) (drop k es)) o)

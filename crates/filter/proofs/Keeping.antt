@@ -1,5 +1,5 @@
 -- Keeping some items of a list in place: xs as it was, ys as it is, i items passed and kept of them kept.
-use Rattle.std.proofs.Common.{◌≡◌, ℕ, ◌+◌, ◌<◌, ◌≤◌, min, Bool, true, false, cond, List, [], ◌∷◌, ◌++◌, length, get_or, take, drop, set, sym, refl, ap, ◌∙◌, subst, inl, inr, arith}
+use Rattle.std.proofs.Common.{◌≡◌, ℕ, ◌+◌, ◌-◌, ◌<◌, ◌≤◌, min, Bool, true, false, cond, List, [], ◌∷◌, ◌++◌, length, get_or, take, drop, set, sym, refl, ap, ◌∙◌, subst, inl, inr, arith}
 use Rattle.std.proofs.lemmas.Bool.{cases_lt}
 use Rattle.std.proofs.lemmas.List.{append-nil, length-set, length_push, take_all, take_more, take_more_set, drop-drop, drop-set-lt, get_or-drop, get_or_append_left, get_or_push}
 use Rattle.lists.proofs.Chosen.{chosen_push}
@@ -73,3 +73,9 @@ finished R xs ys i kept n c e = subst (λ zs. Retained R zs (take kept ys)) same
       | inl l ↦ let z : i ≡ n = omega (arith, e) in ap (λ k. take k xs) z
       | inr l ↦ take_all i xs (omega (arith, e)) ∙ sym (take_all n xs (omega arith))
     ]
+
+-- the items past the first n stay as they were
+pub past : (R : ℕ → Bool → Type 0) (xs ys : List ℕ) (i kept n : ℕ) → Keeping R xs ys i kept → i ≤ n → drop n ys ≡ drop n xs
+past R xs ys i kept n c l =
+    let z : i + (n - i) ≡ n = omega arith in
+    ap (λ k. drop k ys) (sym z) ∙ sym (drop-drop (n - i) i ys) ∙ ap (drop (n - i)) c.rest ∙ drop-drop (n - i) i xs ∙ ap (λ k. drop k xs) z

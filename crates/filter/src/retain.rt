@@ -1,5 +1,5 @@
 // The items of a list that a closure keeps move to its front.
-ghost use Rattle.std.specs.Prelude.{◌≤◌, length, take};
+ghost use Rattle.std.specs.Prelude.{◌≡◌, ◌≤◌, length, take, drop};
 ghost use Rattle.filter.specs.Retained.{Retained};
 
 use lent_list::Count;
@@ -8,6 +8,7 @@ use lent_list::Count;
 pub fn retain<F: Fn(u16) -> bool>(list: &mut [u16], count: &mut Count, keeps: F)
     requires { F.IsAlwaysCallable keeps }
     ensures within { count.new.len ≤ length list.new }
+    ensures past { drop count.old.len list.new ≡ drop count.old.len list.old }
     ensures retained { Retained (F.post keeps) (take count.old.len list.old) (take count.new.len list.new) }
 {
     let mut kept = 0;

@@ -1,5 +1,5 @@
 -- Counting arguments over the tokens of a formula finds the misused symbols of its sides.
-use Rattle.std.proofs.Common.{◌≡◌, ℕ, ◌+◌, ◌≤◌, Bool, true, false, cond, not, eqb, ltb, ◌⊎◌, List, [], ◌∷◌, ◌++◌, Some, None, Option, sym, refl, ap, ◌∙◌, ap₂, inl, inr, append-nil, arith}
+use Rattle.std.proofs.Common.{◌≡◌, ℕ, ◌+◌, ◌≤◌, Bool, true, false, cond, not, eqb, ltb, ◌⊎◌, List, [], ◌∷◌, ◌++◌, Some, None, Option, unwrap_or, sym, refl, ap, ◌∙◌, ap₂, inl, inr, append-nil, arith}
 use Rattle.std.proofs.lemmas.Bool.{cond_both}
 use Rattle.std.proofs.lemmas.Bool.Decides.{nat_tests}
 use Rattle.terms.specs.declared.pattern.Node.{Node}
@@ -11,7 +11,7 @@ use Rattle.lexer.specs.Tokens.{Lexeme}
 use Rattle.lexer.specs.declared.token.Kind.TheVariants.{Close, Dot, Equal, Unequal}
 use Rattle.grammar.specs.Syntax.{Tree, Trees, Term, Args, variable, constant, applied, last, more, Literal, Sides, sides, Body, bare, wrapped, Is}
 use Rattle.formula.specs.Symbols.{symbol_of, number_in}
-use Rattle.formula.specs.Scans.{arity_in, arity_for, as_many, note, bumped, opens, scan}
+use Rattle.formula.specs.Scans.{arity_in, arity_for, wanted, as_many, note, bumped, opens, scan}
 use Rattle.formula.specs.Uses.{Use, uses, usess, count, misused}
 use Rattle.formula.specs.Outcomes.{all_uses}
 use Rattle.formula.specs.declared.frame.Frame.{Frame}
@@ -38,6 +38,12 @@ test_right None n h = grind (arith, nat_tests)
 test_right (Some (Var x)) n h = grind (arith, nat_tests)
 test_right (Some (App f a)) n h = grind (arith, nat_tests)
 
+-- where one argument or more are counted, 0 is as wrong as no arity
+test_opened : (o : Option Node) (n : ℕ) → Few o → eqb (capped (n + 1)) (unwrap_or (arity_in o) 0) ≡ not (wrong o (n + 1))
+test_opened None n h = grind (arith, nat_tests)
+test_opened (Some (Var x)) n h = grind (arith, nat_tests)
+test_opened (Some (App f a)) n h = grind (arith, nat_tests)
+
 few : (s : Signature) (w : List ℕ) → Few (symbol_of s w)
 few s w = cond_both (ltb (number_in s w) (sig_of s).symbols) _ _ Few (λ _. arity_within s (number_in s w)) (λ _. tt)
 
@@ -48,8 +54,11 @@ module _ (s : Signature) where
   right : (w : Lexeme) (n : ℕ) → as_many (capped n) (arity_for s w.bytes) ≡ not (misused s (use_of w n))
   right w n = test_right (symbol_of s w.bytes) n (few s w.bytes)
 
+  right_opened : (w : Lexeme) (n : ℕ) → eqb (capped (n + 1)) (wanted s w.bytes) ≡ not (misused s (use_of w (n + 1)))
+  right_opened w n = test_opened (symbol_of s w.bytes) n (few s w.bytes)
+
   abbrev frame : Lexeme → ℕ → Frame
-  frame w n = record { place = w.place; arity = arity_for s w.bytes; args = capped n }
+  frame w n = record { place = w.place; arity = wanted s w.bytes; args = capped n }
 
   mutual
     term_scan : {ts us : List Lexeme} {x : Tree} → Term ts x us → opens us ≡ false → (fs : List Frame) (b : Option ℕ) → scan s fs b ts ≡ scan s fs (misuse s (uses x) b) us
@@ -63,10 +72,10 @@ module _ (s : Signature) where
     args_scan : {ts us : List Lexeme} {xs : Trees} → Args ts xs us → (w : Lexeme) (n : ℕ) (fs : List Frame) (b : Option ℕ) → scan s (frame w (n + 1) ∷ fs) b ts ≡ scan s fs (note (not (misused s (use_of w (n + count xs)))) (misuse s (usess xs) b) w.place) us
     args_scan (last {c = c} {rest = us} {t = t} term k) w n fs b =
         let all : uses t ++ [] ≡ uses t = append-nil (uses t) in
-        term_scan term (rw k refl) (frame w (n + 1) ∷ fs) b ∙ rw (k, all) (ap (λ r. scan s fs (note r (misuse s (uses t) b) w.place) us) (right w (n + 1)))
+        term_scan term (rw k refl) (frame w (n + 1) ∷ fs) b ∙ rw (k, all) (ap (λ r. scan s fs (note r (misuse s (uses t) b) w.place) us) (right_opened w n))
     args_scan (more {m = m} {us = vs} {rest = us} {t = t} {more_trees = xs} term k args) w n fs b =
         let up : n + 1 + count xs ≡ n + (1 + count xs) = omega arith in
-        term_scan term (rw k refl) (frame w (n + 1) ∷ fs) b ∙ rw k (ap (λ c. scan s (record { place = w.place; arity = arity_for s w.bytes; args = c } ∷ fs) (misuse s (uses t) b) vs) (bump_capped (n + 1)) ∙ args_scan args w (n + 1) fs (misuse s (uses t) b) ∙ ap₂ (λ (m : ℕ) (c : Option ℕ). scan s fs (note (not (misused s (use_of w m))) c w.place) us) up (sym (misuse_append s (uses t) (usess xs) b)))
+        term_scan term (rw k refl) (frame w (n + 1) ∷ fs) b ∙ rw k (ap (λ c. scan s (record { place = w.place; arity = wanted s w.bytes; args = c } ∷ fs) (misuse s (uses t) b) vs) (bump_capped (n + 1)) ∙ args_scan args w (n + 1) fs (misuse s (uses t) b) ∙ ap₂ (λ (m : ℕ) (c : Option ℕ). scan s fs (note (not (misused s (use_of w m))) c w.place) us) up (sym (misuse_append s (uses t) (usess xs) b)))
 
   sign_closed : (t : Lexeme) (ts : List Lexeme) → Is Equal t ⊎ Is Unequal t → opens (t ∷ ts) ≡ false
   sign_closed t ts (inl k) = rw k refl

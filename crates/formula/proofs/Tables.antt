@@ -1,9 +1,10 @@
 -- The table of variables: a name's number, and one name more.
-use Rattle.std.proofs.Common.{◌≡◌, ℕ, ◌+◌, ◌<◌, ◌≤◌, Bool, true, false, not, ◌⊎◌, List, [], ◌∷◌, ◌++◌, length, take, drop, position, Some, None, sym, refl, ap, ◌∙◌, inl, inr, arith}
+use Rattle.std.proofs.Common.{◌≡◌, ℕ, zero, suc, ◌+◌, ◌-◌, ◌<◌, ◌≤◌, Bool, true, false, not, ◌⊎◌, List, [], ◌∷◌, ◌++◌, length, take, drop, set, position, Some, None, sym, refl, ap, ◌∙◌, inl, inr, arith}
 use lib.ListN.{length-map}
 use Rattle.std.specs.Str.{bytes_eq}
 use Rattle.std.specs.List.{position_or_len}
 use Rattle.std.proofs.lemmas.Bool.{cases_Bool, cases_lt, cond_both, cond-true, cond-false, lt-ltb, le-ltb}
+use Rattle.std.proofs.lemmas.List.{take_rest, take_all, drop_all, take_more_set, map-append}
 use Rattle.std.proofs.lemmas.List.Sums.{prefix_len-le-length}
 use Rattle.grammar.proofs.Steps.{none_some, some_same}
 use Rattle.row.specs.Items.{items}
@@ -13,6 +14,22 @@ use Rattle.formula.specs.Numbering.{with_name}
 use Rattle.formula.specs.Rows.{spanned, names_in}
 use Rattle.formula.specs.declared.variables.Span.{Span}
 use Rattle.formula.specs.declared.variables.Variables.{Variables}
+
+take_none : (n : ℕ) → take {A = ℕ} n [] ≡ []
+take_none zero = refl
+take_none (suc n) = refl
+
+-- a part of a text, however it is cut
+pub part_past : (text : List ℕ) (place n m : ℕ) → length text ≤ place → take m (drop (length text) text) ≡ take n (drop place text)
+part_past text place n m h = ap (take m) (drop_all (length text) text (omega arith)) ∙ take_none m ∙ sym (ap (take n) (drop_all place text h) ∙ take_none n)
+
+pub part_all : (text : List ℕ) (place n : ℕ) → length (take (length text - place) (drop place text)) ≤ n → take (length text - place) (drop place text) ≡ take n (drop place text)
+part_all text place n h = take_rest text place ∙ sym (take_all n (drop place text) (omega (arith, ap length (take_rest text place))))
+
+pub part_front : (text : List ℕ) (place n : ℕ) → take (n - 0) (take (length text - place) (drop place text)) ≡ take n (drop place text)
+part_front text place n =
+    let same : n - 0 ≡ n = omega arith in
+    ap (λ k. take k (take (length text - place) (drop place text))) same ∙ ap (take n) (take_rest text place)
 
 pub index_within : (w : List ℕ) (ns : List (List ℕ)) → index_of w ns ≤ length ns
 index_within w [] = omega arith
@@ -49,6 +66,10 @@ module _ (text word : List ℕ) where
 
 pub names_size : (text : List ℕ) (v : Variables) → length (names_in text v) ≡ length (items v.spans)
 names_size text v = length-map (items v.spans) (λ (s : Span). take s.len (drop s.place text))
+
+-- one name more at the end
+pub named_more : (text : List ℕ) (spans : List Span) (k : ℕ) (s : Span) → k < length spans → spanned text (take (k + 1) (set spans k s)) ≡ spanned text (take k spans) ++ take s.len (drop s.place text) ∷ []
+named_more text spans k s h = ap (spanned text) (take_more_set spans k s h) ∙ map-append (λ (t : Span). take t.len (drop t.place text)) (take k spans) (s ∷ [])
 
 pub old_name : (vs : List (List ℕ)) (v : List ℕ) → index_of v vs < length vs → with_name vs v ≡ vs
 old_name vs v h = cond-true _ _ _ (lt-ltb (index_of v vs) (length vs) h)

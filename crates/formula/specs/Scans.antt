@@ -1,5 +1,6 @@
 -- Counting arguments over tokens: the symbols whose parentheses are open wait on a stack, the innermost first.
 use Rattle.std.specs.Prelude.{ℕ, ◌+◌, min, Bool, false, cond, List, [], ◌∷◌, Some, None, Option, ◌==◌, nat_lt}
+use Rattle.std.specs.Option.{unwrap_or}
 use Rattle.terms.specs.declared.pattern.Node.{Node}
 use Rattle.terms.specs.declared.pattern.Node.TheVariants.{Var, App}
 use Rattle.signature.specs.declared.signature.Signature.{Signature}
@@ -17,6 +18,10 @@ arity_in (Some (App f a)) = Some a
 
 abbrev pub arity_for : Signature → List ℕ → Option ℕ
 arity_for s w = arity_in (symbol_of s w)
+
+-- the arguments that a symbol wants whose parentheses are open: 0, which one or more never are, for a name that no line has
+abbrev pub wanted : Signature → List ℕ → ℕ
+wanted s w = unwrap_or (arity_for s w) 0
 
 -- so many arguments are as many as the arity
 abbrev pub as_many : ℕ → Option ℕ → Bool
@@ -49,11 +54,11 @@ at_close (f ∷ fs) = fs
 
 abbrev pub noted_at_close : List Frame → Option ℕ → Option ℕ
 noted_at_close [] b = b
-noted_at_close (f ∷ fs) b = note (as_many f.args f.arity) b f.place
+noted_at_close (f ∷ fs) b = note (f.args == f.arity) b f.place
 
 -- the stack behind a token, and the lowest place noted
 abbrev pub stacked : Signature → List Frame → Lexeme → Bool → List Frame
-stacked s fs t o = elim t.kind [ Word ↦ cond o (record { place = t.place; arity = arity_for s t.bytes; args = 1 } ∷ fs) fs | Variable ↦ fs | Open ↦ fs | Close ↦ at_close fs | Comma ↦ at_comma fs | Dot ↦ fs | Equal ↦ fs | Unequal ↦ fs | Stray ↦ fs ]
+stacked s fs t o = elim t.kind [ Word ↦ cond o (record { place = t.place; arity = wanted s t.bytes; args = 1 } ∷ fs) fs | Variable ↦ fs | Open ↦ fs | Close ↦ at_close fs | Comma ↦ at_comma fs | Dot ↦ fs | Equal ↦ fs | Unequal ↦ fs | Stray ↦ fs ]
 
 abbrev pub noted : Signature → List Frame → Option ℕ → Lexeme → Bool → Option ℕ
 noted s fs b t o = elim t.kind [ Word ↦ cond o b (note (as_many 0 (arity_for s t.bytes)) b t.place) | Variable ↦ b | Open ↦ b | Close ↦ noted_at_close fs b | Comma ↦ b | Dot ↦ b | Equal ↦ b | Unequal ↦ b | Stray ↦ b ]

@@ -1,5 +1,5 @@
 // The answer: down the first differing arguments until weights or heads decide.
-ghost use Rattle.std.specs.Prelude.{◌≡◌, ℕ, ◌<◌, Decides, MatchOption};
+ghost use Rattle.std.specs.Prelude.{◌≡◌, ℕ, ◌<◌, not, length, Decides, MatchOption};
 ghost use Rattle.terms.specs.Term.{width};
 ghost use Rattle.signature.specs.Signatures.{sig_of};
 ghost use Rattle.rewriting.specs.Kbo.{Kbo, KboLex};
@@ -39,5 +39,12 @@ fn first_difference(s: &Subterms, p: usize, t: &Subterms, q: usize) -> Option<(u
 {
     s.arguments(p)
         .zip(t.arguments(q))
-        .find(|(i, j)| !s.same(*i, t, *j))
+        .find(|(i, j)| differ(s, *i, t, *j))
+}
+
+// Whether the subterms at two places differ.
+fn differ(s: &Subterms, i: usize, t: &Subterms, j: usize) -> bool
+    ensures { Decides (not result) (i < length (row_of s.now) × j < length (row_of t.now) × (at (row_of s.now) i ≡ at (row_of t.now) j)) }
+{
+    !s.same(i, t, j)
 }

@@ -1,5 +1,5 @@
 -- Laws of choices.
-use Rattle.std.proofs.Common.{◌≡◌, ℕ, zero, suc, ◌<◌, Bool, true, false, cond, List, [], ◌∷◌, ◌++◌, length, get_or, sym, refl, ap, inl, inr, arith}
+use Rattle.std.proofs.Common.{◌≡◌, ℕ, zero, suc, ◌<◌, ◌≤◌, Bool, true, false, cond, List, [], ◌∷◌, ◌++◌, length, get_or, take, sym, refl, ap, inl, inr, arith}
 use Rattle.std.proofs.lemmas.Bool.{false≢true}
 use Rattle.lists.specs.Members.{In, Once}
 use Rattle.lists.specs.Chosen.{chosen_of}
@@ -39,6 +39,12 @@ once_chosen (c ∷ cs) [] o = tt
 once_chosen (true ∷ cs) (x ∷ xs) o = (λ h. o.0 (from_chosen cs xs x h), once_chosen cs xs o.1)
 once_chosen (false ∷ cs) (x ∷ xs) o = once_chosen cs xs o.1
 
+pub length_chosen : {A : Type 0} (cs : List Bool) (xs : List A) → length (chosen_of cs xs) ≤ length xs
+length_chosen [] xs = omega arith
+length_chosen (c ∷ cs) [] = omega arith
+length_chosen (true ∷ cs) (x ∷ xs) = omega (arith, length_chosen cs xs)
+length_chosen (false ∷ cs) (x ∷ xs) = omega (arith, length_chosen cs xs)
+
 -- one more item at the end, chosen or not
 pub chosen_push : {A : Type 0} (cs : List Bool) (xs : List A) (c : Bool) (x : A) → length cs ≡ length xs → chosen_of (cs ++ c ∷ []) (xs ++ x ∷ []) ≡ chosen_of cs xs ++ cond c (x ∷ []) []
 chosen_push [] [] true x e = refl
@@ -47,3 +53,13 @@ chosen_push [] (y ∷ xs) c x e = absurd (let z : ⊥ = omega arith in z)
 chosen_push (b ∷ cs) [] c x e = absurd (let z : ⊥ = omega arith in z)
 chosen_push (true ∷ cs) (y ∷ xs) c x e = ap (λ zs. y ∷ zs) (chosen_push cs xs c x (omega arith))
 chosen_push (false ∷ cs) (y ∷ xs) c x e = chosen_push cs xs c x (omega arith)
+
+-- the choice and the items up to a place past one of them
+pub chosen_all : {A : Type 0} (cs : List Bool) (xs : List A) (n : ℕ) → (n < length cs → n < length xs → ⊥) → chosen_of (take n cs) (take n xs) ≡ chosen_of cs xs
+chosen_all [] xs zero h = refl
+chosen_all [] xs (suc n) h = refl
+chosen_all (c ∷ cs) [] zero h = refl
+chosen_all (c ∷ cs) [] (suc n) h = refl
+chosen_all (c ∷ cs) (x ∷ xs) zero h = absurd (h (omega arith) (omega arith))
+chosen_all (true ∷ cs) (x ∷ xs) (suc n) h = ap (λ zs. x ∷ zs) (chosen_all cs xs n (λ p q. h (omega arith) (omega arith)))
+chosen_all (false ∷ cs) (x ∷ xs) (suc n) h = chosen_all cs xs n (λ p q. h (omega arith) (omega arith))

@@ -1,5 +1,5 @@
 -- What is seen of two terms, and of the pairs of their subterms.
-use Rattle.std.specs.Prelude.{◌≡◌, ℕ, ◌+◌, ◌*◌, ◌<◌, ◌≤◌, List, length, slice_index_or}
+use Rattle.std.specs.Prelude.{◌≡◌, ℕ, ◌+◌, ◌*◌, ◌<◌, ◌≤◌, List, [], length, slice_index_or}
 use Rattle.terms.specs.Term.{Term, Terms}
 use Rattle.terms.specs.declared.pattern.Node.{Node}
 use Rattle.rewriting.specs.Lpo.{Lpo, LpoLex, HeadsAbove}
@@ -25,14 +25,14 @@ SaysHeads r s t = Tells r (HeadsAbove s t) (s ≡ t)
 
 -- the rows of the upper and the lower term
 abbrev pub up : Sides → List Node
-up b = row_of b.upper
+up b = row_of b.upper.now
 
 abbrev pub low : Sides → List Node
-low b = row_of b.lower
+low b = row_of b.lower.now
 
 -- what is seen of the pair of the places i and j
 abbrev pub seen_at : Sides → ℕ → ℕ → Compared
-seen_at b i j = slice_index_or b.seen (32 * i + j) Neither
+seen_at b i j = slice_index_or (slice_index_or b.seen.rows i []) j Neither
 
 -- the pairs from that at k on are seen
 abbrev pub Seen : Sides → ℕ → Type 0

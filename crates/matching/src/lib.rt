@@ -23,7 +23,7 @@ pub fn match_cell(pattern: &Pattern, bank: &[Cell], cell: u16) -> Option<[Option
     ensures { Matched bank.now pattern.now cell result }
 {
     let mut bindings = [None; 16];
-    let mut pending = Row::from_slice(&[cell], cell)?;
+    let mut pending = Row::front([cell; 32], 1);
     for node in pattern.nodes() {
         meet(*node, bank, &mut pending, &mut bindings)?;
     }

@@ -70,7 +70,7 @@ module _ {b : List Cell} {i : ℕ} {es : List Entry} {list : List ℕ} {len k : 
   abbrev Right : Bool → Type 0
   Right c = (S : Sig) → Rules S b → i < length b → Decides c (Instance b (term_of e.pattern) i)
 
-  takes : len < length list → Right true → Going b i es (set list len e.number) (len + 1) (k + 1)
+  pub takes : len < length list → Right true → Going b i es (set list len e.number) (len + 1) (k + 1)
   takes room right = record {
     few = omega (arith, g.few);
     within = omega (arith, length-set list len e.number);
@@ -90,7 +90,7 @@ module _ {b : List Cell} {i : ℕ} {es : List Entry} {list : List ℕ} {len k : 
   }
 
   -- there is room wherever the list is long enough
-  no_room : length list ≤ len → Going b i es list len (k + 1)
+  pub no_room : length list ≤ len → Going b i es list len (k + 1)
   no_room full = record {
     few = omega (arith, g.few);
     within = g.within;

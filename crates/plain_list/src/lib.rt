@@ -85,9 +85,10 @@ fn generalizing(entries: &[Entry], bank: &[Cell], cell: u16, list: &mut [u16], f
     ensures finds { (S : Sig) → Asked S bank.now cell (length entries.now) list.old → Once (numbers entries.now) → Generalizations (lookup entries.now) bank.now cell (take found.new.len list.new) }
 {
     found.len = 0;
+    let room = list.len();
     let mut numbers = List::over(list, found);
     for entry in entries {
-        if is_instance(&entry.pattern, bank, cell) {
+        if numbers.len() < room && is_instance(&entry.pattern, bank, cell) {
             let _ = numbers.append(entry.number);
         }
     }

@@ -1,7 +1,7 @@
 // How refusals, formulas and numbers are printed.
 #![tactic(auto)]
 
-ghost use Rattle.std.specs.Prelude.{◌≡◌, Ok, Some, None, IfOk, IfSome, MatchResult};
+ghost use Rattle.std.specs.Prelude.{◌≡◌, ◌⊎◌, Ok, Some, None, IfOk, IfSome, MatchResult};
 ghost use Rattle.sides.specs.Rules.{Texts};
 
 use formula::equation::Equation;
@@ -45,12 +45,20 @@ pub fn sides_of(
     or_refusal(rt, write_sides(rt.alloc(), signature, equation))
 }
 
-pub fn print_sides(rt: &HostRuntime, signature: &Signature, equation: &Equation) -> io::Result<()> {
+// Prints both sides, and says how many cells of a bank they share: none where a refusal is printed in their place.
+pub fn print_sides(
+    rt: &HostRuntime,
+    signature: &Signature,
+    equation: &Equation,
+) -> io::Result<usize>
+    ensures { IfOk result (λ n. (n ≡ 0) ⊎ ((s : Sides) × (Texts signature.now equation.now s) × (n ≡ s.cells))) }
+{
     let Some(sides) = sides_of(rt, signature, equation)? else {
-        return Ok(());
+        return Ok(0);
     };
     rt.println(Equality {
         sides: &sides,
         sign: equation.sign,
-    })
+    })?;
+    Ok(sides.cells)
 }

@@ -11,11 +11,13 @@ use offers::goal::enter_sides;
 use offers::{Offer, Patterns};
 use printing::shown::{Listed, Shown};
 use printing::{or_refusal, print_refusal, print_sides};
-use sides::{Fault, text_of};
+use refusal::Refusal;
+use row::Row;
+use sides::Fault;
 use signature::signature::Signature;
-use std::alloc::Global;
 use std::io;
 use terms::pattern::Pattern;
+use writer::write_term;
 
 pub fn print_retrieval(
     rt: &HostRuntime,
@@ -55,7 +57,7 @@ fn print_pattern(
     number: u16,
     pattern: &Pattern,
 ) -> io::Result<()> {
-    let Some(text) = or_refusal(rt, pattern_text(rt.alloc(), signature, pattern))? else {
+    let Some(text) = or_refusal(rt, pattern_text(signature, pattern))? else {
         return Ok(());
     };
     let term = Shown(text.as_slice());
@@ -63,11 +65,25 @@ fn print_pattern(
 }
 
 // The pattern's text, from a bank of its own.
-fn pattern_text(heap: Global, signature: &Signature, pattern: &Pattern) -> Result<Vec<u8>, Fault> {
+fn pattern_text(signature: &Signature, pattern: &Pattern) -> Result<Text, Fault> {
     let mut cells = [Cell::Var(0); 32];
     let mut count = Count { len: 0 };
     let cell = enter(signature, pattern, &mut cells, &mut count)?;
-    text_of(heap, signature, &cells, &count, cell)
+    Ok(text_of(signature, &cells, &count, cell)?)
+}
+
+// A pattern has at most 32 cells, each at most a name of 16 bytes with a parenthesis and a comma. Its text takes no memory from elsewhere.
+type Text = Row<u8, 1024>;
+
+fn text_of(
+    signature: &Signature,
+    cells: &[Cell],
+    count: &Count,
+    cell: u16,
+) -> Result<Text, Refusal> {
+    let mut bytes = [0; 1024];
+    let len = write_term(signature, cells, count, cell, &mut bytes)?;
+    Ok(Row::front(bytes, len))
 }
 
 // The sides of a formula have together at most 64 cells.
@@ -114,7 +130,7 @@ fn print_subterm(
     count: &Count,
     cell: u16,
 ) -> io::Result<bool> {
-    let found = text_and_offer(rt.alloc(), signature, patterns, cells, count, cell);
+    let found = text_and_offer(signature, patterns, cells, count, cell);
     let Some((text, offer)) = or_refusal(rt, found)? else {
         return Ok(false);
     };
@@ -126,14 +142,13 @@ fn print_subterm(
 }
 
 fn text_and_offer(
-    heap: Global,
     signature: &Signature,
     patterns: &Patterns,
     cells: &[Cell],
     count: &Count,
     cell: u16,
-) -> Result<(Vec<u8>, Offer), Fault> {
-    let text = text_of(heap, signature, cells, count, cell)?;
+) -> Result<(Text, Offer), Fault> {
+    let text = text_of(signature, cells, count, cell)?;
     let offer = ask(patterns, signature, cells, count, cell)?;
     Ok((text, offer))
 }

@@ -15,7 +15,8 @@ impl<T: Copy, const N: usize> Row<T, N> {
         }
     }
 
-    // The items of the slice, if they are not too many.
+    // The items of the slice, if they are not too many. Inlined, since a filler that is known there is written faster.
+    #[inline(always)]
     pub fn from_slice(slice: &[T], filler: T) -> Option<Row<T, N>>
         ensures { MatchOption result (N < length slice.now) (λ r. items r ≡ slice.now) }
     {

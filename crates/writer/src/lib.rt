@@ -41,7 +41,8 @@ pub fn write_term(
         return Err(Refusal::BankRules);
     }
     let counted = &cells[..count.len];
-    let mut stack = Row::new(Frame::Whole(cell));
+    // Zeros, which cost one pass over the memory; any other frame is filled in apart, and then copied.
+    let mut stack = Row::new(Frame::Whole(0));
     fits(signature, counted, cell, buffer.len(), &mut stack).ok_or(Refusal::BufferTooShort)?;
     write(signature, counted, cell, buffer, &mut stack).ok_or(Refusal::BufferTooShort)
 }

@@ -40,7 +40,7 @@ impl Uses {
         Uses {
             frames: Row::new(Frame {
                 place: 0,
-                arity: None,
+                arity: 0,
                 args: 0,
             }),
             lowest: None,
@@ -81,7 +81,7 @@ impl Uses {
         ensures depth { length (items self.new.frames) ≤ length (items self.old.frames) }
     {
         if let Some(frame) = self.frames.pop() {
-            if frame.arity != Some(frame.args) {
+            if frame.args != frame.arity {
                 self.note(frame.place as usize);
             }
         }
@@ -101,7 +101,7 @@ impl Uses {
                 if opened {
                     self.open(Frame {
                         place: token.place as u16,
-                        arity,
+                        arity: arity.unwrap_or(0),
                         args: 1,
                     });
                 } else if arity != Some(0) {

@@ -1,26 +1,29 @@
 // All pairs of subterms, the later ones first: an argument stands behind its head.
 ghost use Rattle.std.specs.Prelude.{◌≡◌, ◌+◌, ◌*◌, ◌<◌, length, Decides};
-ghost use Rattle.terms.specs.Patterns.{nodes_of, term_of};
+ghost use Rattle.terms.specs.Patterns.{term_of};
 ghost use Rattle.rewriting.specs.Lpo.{Lpo};
 ghost use Rattle.subterms.specs.Places.{at};
+ghost use Rattle.subterms.specs.Rows.{row_of};
 ghost use Rattle.lpo.specs.Seen.{Seen, up, low};
 
-use super::{Compared, Sides};
+use super::{Compared, Sides, Table};
 use subterms::Subterms;
 use terms::pattern::Pattern;
 
-impl Sides {
-    pub fn new(s: &Pattern, t: &Pattern) -> Sides
-        ensures upper { up result ≡ nodes_of s.now }
-        ensures lower { low result ≡ nodes_of t.now }
+impl<'a> Sides<'a> {
+    pub fn new(upper: &'a Subterms, lower: &'a Subterms) -> Sides<'a>
+        ensures upper { up result ≡ row_of upper.now }
+        ensures lower { low result ≡ row_of lower.now }
         ensures seen { Seen result 0 }
     {
         let mut sides = Sides {
-            upper: Subterms::new(s),
-            lower: Subterms::new(t),
-            seen: [Compared::Neither; 1024],
+            upper,
+            lower,
+            seen: Table {
+                rows: [[Compared::Neither; 32]; 32],
+            },
         };
-        for p in (0..s.len()).rev() {
+        for p in (0..upper.nodes().len()).rev() {
             sides.fill_row(p);
         }
         sides
@@ -34,7 +37,7 @@ impl Sides {
         ensures seen { Seen self.new (32 * p) }
     {
         for q in (0..self.lower.nodes().len()).rev() {
-            self.seen[32 * p + q] = self.compare(p, q);
+            self.seen.rows[p][q] = self.compare(p, q);
         }
     }
 }
@@ -43,5 +46,5 @@ impl Sides {
 pub fn is_above(s: &Pattern, t: &Pattern) -> bool
     ensures { Decides result (Lpo (term_of s.now) (term_of t.now)) }
 {
-    Sides::new(s, t).pair(0, 0) == Compared::Above
+    Sides::new(&Subterms::new(s), &Subterms::new(t)).pair(0, 0) == Compared::Above
 }

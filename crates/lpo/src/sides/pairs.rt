@@ -9,7 +9,7 @@ ghost use Rattle.lpo.specs.Seen.{Says, SaysLex, SaysHeads, Ready, seen_at, up, l
 use super::{Compared, Sides};
 use terms::pattern::Node;
 
-impl Sides {
+impl<'a> Sides<'a> {
     // Needs what is seen of all later pairs.
     pub fn compare(&self, p: usize, q: usize) -> Compared
         requires { Ready self.now p q }
@@ -103,7 +103,9 @@ impl Sides {
     pub fn pair(&self, i: usize, j: usize) -> Compared
         ensures { result ≡ seen_at self.now i j }
     {
-        let at = i.saturating_mul(32).saturating_add(j);
-        self.seen.get(at).copied().unwrap_or(Compared::Neither)
+        match self.seen.rows.get(i) {
+            Some(row) => row.get(j).copied().unwrap_or(Compared::Neither),
+            None => Compared::Neither,
+        }
     }
 }

@@ -9,7 +9,7 @@ use Rattle.matching.proofs.Going.{start, fits, small_node, again, ended, finishe
 use Rattle.matching.proofs.match_cell.Goals as goal
 
 pub loop-node-init : goal.loop-node-init
-loop-node-init c = start c.args.bank.now c.args.pattern.now c.args.cell _ (ap reverse c.in_ok-pending.ensures)
+loop-node-init c = start c.args.bank.now c.args.pattern.now c.args.cell _ (ap reverse c.front-pending.ensures)
 
 pub meet-requires : goal.meet-requires
 meet-requires c =
@@ -31,7 +31,7 @@ returns-in_err-meet c =
     let n = get_or c.nodes-node-items.result.now c.loop-node.node-index (Var 0) in
     let l : c.loop-node.node-index < length (nodes_of c.args.pattern.now) = omega (arith, ap length c.nodes-node-items.ensures) in
     let is = ap (λ ns. get_or ns c.loop-node.node-index (Var 0)) (sym c.nodes-node-items.ensures) in
-    subst (Matched c.args.bank.now c.args.pattern.now c.args.cell) (sym c.from_residual-in_err-meet.ensures)
+    subst (Matched c.args.bank.now c.args.pattern.now c.args.cell) (sym c.from_residual.ensures)
     (ended c.loop-node.invariant n l is c.meet.new.bindings (pending c.meet.new.pending) c.in_err-meet.ensures)
 
 pub returns : goal.returns

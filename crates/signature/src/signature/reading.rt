@@ -13,19 +13,27 @@ impl Signature {
         ensures outcome { Read text.now (lines_read result) }
         ensures once { ReadsOnce }
     {
-        // Until the others are read, the first line's symbol lies in their places.
-        let (first, _) = first_line(text).ok_or(Refusal::SignatureLine(1))?;
-        let mut symbols = Row::new(first);
-        let mut rest = text;
+        let Some((first, after)) = first_line(text) else {
+            return Err(Refusal::SignatureLine(1));
+        };
+        // Until the others are read, the first line's symbol lies in their places; an array, since a row so large is slow to fill.
+        let mut symbols = [first; 64];
+        let mut count = 1;
+        let mut rest = after;
         while !rest.is_empty() {
-            let bad_line = Refusal::SignatureLine(symbols.len() + 1);
+            let bad_line = Refusal::SignatureLine(count + 1);
             let (symbol, after) = first_line(rest).ok_or(bad_line)?;
-            if is_taken(symbols.as_slice(), symbol.name.bytes()) {
+            if is_taken(&symbols[..count], symbol.name.bytes()) {
                 return Err(bad_line);
             }
-            symbols.push(symbol).or(Err(bad_line))?;
+            if count == 64 {
+                return Err(bad_line);
+            }
+            symbols[count] = symbol;
+            count += 1;
             rest = after;
         }
+        let symbols = Row::front(symbols, count);
         Ok(Signature { symbols })
     }
 }

@@ -36,7 +36,7 @@ impl Pattern {
         if x >= 16 {
             return None;
         }
-        let nodes = Row::from_slice(&[Node::Var(x)], Node::Var(0))?;
+        let nodes = Row::front([Node::Var(x); 32], 1);
         Some(Pattern { nodes })
     }
 
@@ -57,10 +57,11 @@ impl Pattern {
     pub fn new(nodes: &[Node]) -> Option<Pattern>
         ensures { MatchOption result (Fits nodes.now → ⊥) (λ p. nodes_of p ≡ nodes.now) }
     {
-        let row = Row::from_slice(nodes, Node::Var(0))?;
-        if walk(nodes)? != 1 {
+        // Walked before they are copied: bytes that were just copied are slow to read one by one.
+        if nodes.len() > 32 || walk(nodes)? != 1 {
             return None;
         }
+        let row = Row::from_slice(nodes, Node::Var(0))?;
         Some(Pattern { nodes: row })
     }
 }

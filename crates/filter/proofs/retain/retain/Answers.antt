@@ -1,5 +1,5 @@
 use Rattle.std.proofs.Common.{◌<◌, length, arith}
-use Rattle.filter.proofs.Keeping.{start, keeps, skips, finished}
+use Rattle.filter.proofs.Keeping.{start, keeps, skips, past, finished}
 use Rattle.filter.proofs.retain.retain.Goals as goal
 use Rattle.filter.proofs.retain.retain.Goals.{then-keeps, else-keeps}
 
@@ -18,5 +18,6 @@ loop-i-preserved g c =
 pub returns : goal.returns
 returns g c = record {
   within = omega (arith, c.loop-i.invariant.few, c.loop-i.invariant.size, c.loop-i.auto.i-end, c.min-i-end.ensures);
+  past = past _ c.args.list.now c.loop-i.list c.loop-i.i c.loop-i.kept c.args.count.now.len c.loop-i.invariant (omega (arith, c.loop-i.auto.i-end, c.min-i-end.ensures));
   retained = finished _ c.args.list.now c.loop-i.list c.loop-i.i c.loop-i.kept c.args.count.now.len c.loop-i.invariant (omega (arith, c.loop-i-test.false, c.loop-i.auto.i-end, c.min-i-end.ensures));
 }
