@@ -1,5 +1,5 @@
 -- The laws that an index over the entries owes.
-use Rattle.std.proofs.Common.{◌≡◌, ℕ, ◌<◌, ◌≤◌, true, List, [], ◌∷◌, ◌++◌, length, get_or, swap_remove, Some, None, Ok, Err, Option, Result, MatchOption, MatchResult, IfSome, sym, subst, arith}
+use Rattle.std.proofs.Common.{◌≡◌, ℕ, ◌<◌, ◌≤◌, true, List, [], ◌∷◌, ◌++◌, length, get_or, swap_remove, Some, None, Ok, Err, Option, Result, MatchOption, MatchResult, IfSome, sym, ap, ◌∙◌, subst, arith}
 use Rattle.std.proofs.lemmas.List.{length-map, length-take-le}
 use Rattle.row.specs.declared.Full.{Full}
 use Rattle.lists.specs.Members.{Once}
@@ -34,8 +34,8 @@ pub added : {N : ℕ} (s : Entries N) (e : Entry) (es : List Entry) (o : Result 
 added s e es (Ok u) free h = rw h.1 (once_distinct (numbers (entries_of s ++ e ∷ [])) (once_push (entries_of s) e (apart s) free))
 added s e es (Err f) free h = rw h.1 s.apart
 
--- the item at place i is taken out
-pub taken : {N : ℕ} (s : Entries N) (n i : ℕ) (es : List Entry) (o : Option Entry) → Placed (entries_of s) n (Some i)
-    → MatchOption o (length (entries_of s) ≤ i) (λ x. (i < length (entries_of s)) × (x ≡ get_or (entries_of s) i x)) → IfSome o (λ x. es ≡ swap_remove (entries_of s) i x) → Loses (entries_of s) es n
-taken s n i es None p h k = absurd (let z : ⊥ = omega (arith, p.0, h) in z)
-taken s n i es (Some x) p h k = subst (λ zs. Loses (entries_of s) zs n) (sym k) (removed s n i x p)
+-- the item at the place that was found is taken out
+pub taken : {N : ℕ} (s : Entries N) (n i j : ℕ) (es : List Entry) (o : Option Entry) → j ≡ i → Placed (entries_of s) n (Some i)
+    → MatchOption o (length (entries_of s) ≤ j) (λ x. (j < length (entries_of s)) × (x ≡ get_or (entries_of s) j x)) → IfSome o (λ x. es ≡ swap_remove (entries_of s) j x) → Loses (entries_of s) es n
+taken s n i j es None q p h k = absurd (let z : ⊥ = omega (arith, p.0, h, q) in z)
+taken s n i j es (Some x) q p h k = subst (λ zs. Loses (entries_of s) zs n) (sym (k ∙ ap (λ m. swap_remove (entries_of s) m x) q)) (removed s n i x p)

@@ -1,4 +1,4 @@
-ghost use Rattle.std.specs.Prelude.{◌≡◌, [], position, length, take, drop, is_some, if◌then◌else◌, Some, None, nat_lt};
+ghost use Rattle.std.specs.Prelude.{◌≡◌, ◌<◌, ◌≤◌, [], ◌∷◌, ◌++◌, position, length, take, drop, is_some, if◌then◌else◌, Some, None, nat_lt, MatchOption};
 ghost use Rattle.std.specs.Str.{bytes_eq};
 ghost use Rattle.row.specs.Items.{items};
 ghost use Rattle.formula.specs.Symbols.{index_of};
@@ -42,6 +42,13 @@ impl Variables {
         if let Some(k) = self.find(text, slice(text, span)) {
             return Some(k as u8);
         }
+        self.add(span)
+    }
+
+    // The variable takes the next number, if there is one left.
+    fn add(&mut self, span: Span) -> Option<u8>
+        ensures { MatchOption result ((16 ≤ length (items self.old.spans)) × (self.new ≡ self.old)) (λ k. (k ≡ length (items self.old.spans)) × (length (items self.old.spans) < 16) × (items self.new.spans ≡ items self.old.spans ++ span ∷ [])) }
+    {
         let k = self.count();
         self.spans.push(span).ok()?;
         Some(k as u8)

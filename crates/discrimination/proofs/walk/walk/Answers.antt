@@ -10,7 +10,7 @@ loop-frame-init c =
     let p = c.one-pending.result in
     let fs = frames c.lay.new.agenda in
     let one = ap length c.one-pending.ensures in
-    let start : fs ≡ laid T.marks.root p ++ [] = c.lay.ensures ∙ ap (λ xs. laid c.root.result p ++ reverse xs) c.new-agenda.ensures ∙ ap (λ o. laid o p ++ []) c.root.ensures in
+    let start : fs ≡ laid T.marks.root p ++ [] = grind arith in
     record {
       ready = start_ready T p one fs start;
       counted = omega arith;

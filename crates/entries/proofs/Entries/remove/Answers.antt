@@ -1,4 +1,4 @@
-use Rattle.std.proofs.Common.{Some, refl, rules}
+use Rattle.std.proofs.Common.{Some, refl, rules, arith}
 use Rattle.row.specs.Items.{items}
 use Rattle.entries.specs.Lookup.{Placed}
 use Rattle.entries.specs.Stored.{entries_of}
@@ -12,12 +12,12 @@ invariant_of-self g c =
     let s = c.args.self.now in
     let i = c.in_ok-at.at in
     let p : Placed (entries_of s) c.args.number (Some i) = search rules in
-    record { apart = once_distinct _ (taken s c.args.number i (items c.swap_remove.new.self) c.swap_remove.result p c.swap_remove.ensures.item c.swap_remove.ensures.some).once }
+    record { apart = once_distinct _ (taken s c.args.number i _ (items c.swap_remove.new.self) c.swap_remove.result (omega arith) p c.swap_remove.ensures.item c.swap_remove.ensures.some).once }
 
 pub returns : goal.returns
 returns g c =
     let s = c.args.self.now in
     let i = c.in_ok-at.at in
     let p : Placed (entries_of s) c.args.number (Some i) = search rules in
-    let lost = taken s c.args.number i (items c.swap_remove.new.self) c.swap_remove.result p c.swap_remove.ensures.item c.swap_remove.ensures.some in
+    let lost = taken s c.args.number i _ (items c.swap_remove.new.self) c.swap_remove.result (omega arith) p c.swap_remove.ensures.item c.swap_remove.ensures.some in
     (placed_some (entries_of s) c.args.number (Some i) p refl, lookup_loses (entries_of s) (items c.swap_remove.new.self) c.args.number (apart s) lost)

@@ -1,4 +1,5 @@
 use Rattle.std.proofs.Common.{rules, ◌≡◌, Some, None, [], ◌∷◌, ◌++◌, vec_items, ap, ◌∙◌, arith}
+use Rattle.std.proofs.lemmas.Grind.{common_steps}
 use Rattle.std.proofs.lemmas.List.{nil_from_length}
 use Rattle.std.proofs.lemmas.Option.{MatchOption-at_none}
 use Rattle.std.proofs.lemmas.Result.{err_from_is_err_and}
@@ -29,7 +30,8 @@ loop-rest-preserved c =
     let byte = c.in_ok-byte.byte in
     let pushed : vec_items c.push.new.self ≡ bytes ++ byte ∷ [] = search rules in
     let first : unescaped c.loop-rest.rest.now ≡ onto (Some byte) (unescaped c.in_ok-byte.after.now) = search rules in
-    before_more c.args.text.now c.loop-rest.rest.now c.in_ok-byte.after.now bytes (vec_items c.push.new.self) byte c.loop-rest.invariant first pushed
+    let more = before_more c.args.text.now c.loop-rest.rest.now c.in_ok-byte.after.now bytes (vec_items c.push.new.self) byte c.loop-rest.invariant first pushed in
+    grind (arith, common_steps, more)
 
 pub returns : goal.returns
 returns c =

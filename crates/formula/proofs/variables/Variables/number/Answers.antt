@@ -1,11 +1,9 @@
-use Rattle.std.proofs.Common.{rules, ◌≡◌, ◌<◌, ◌≤◌, [], ◌∷◌, ◌++◌, length, take, drop, Some, sym, ap, ◌∙◌, arith}
+use Rattle.std.proofs.Common.{rules, ◌≡◌, ◌≤◌, length, take, drop, Some, sym, ap, ◌∙◌, arith}
 use Rattle.std.proofs.lemmas.Bool.{cond-true, lt-ltb}
-use Rattle.std.proofs.lemmas.List.{map-append}
 use Rattle.row.specs.Items.{items}
 use Rattle.formula.specs.Symbols.{index_of}
-use Rattle.formula.specs.Rows.{spanned}
-use Rattle.formula.specs.declared.variables.Span.{Span}
-use Rattle.formula.proofs.Tables.{found_at, found_none, names_size, old_name, new_name}
+use Rattle.formula.specs.Rows.{spanned, names_in}
+use Rattle.formula.proofs.Tables.{found_at, found_none, names_size, old_name, numbered}
 use Rattle.formula.proofs.variables.Variables.number.Goals as goal
 
 pub returns-in-Some : goal.returns-in-Some
@@ -24,13 +22,8 @@ returns-in-Some c =
 pub returns : goal.returns
 returns c =
     let text = c.args.text.now in
-    let ss = items c.args.self.now.spans in
-    let v = take c.args.span.len (drop c.args.span.place text) in
-    let none = found_none text c.slice.result.now ss (search rules) in
-    let is : index_of v (spanned text ss) ≡ length ss = ap (λ w. index_of w (spanned text ss)) (sym c.slice.ensures) ∙ none in
-    let room : length ss < 16 = grind arith in
-    let more : items c.push.new.self ≡ ss ++ c.args.span ∷ [] = grind arith in
-    record {
-      number = ap Some (c.count-k.ensures ∙ sym is) ∙ sym (cond-true _ _ _ (lt-ltb (index_of v (spanned text ss)) 16 (omega (arith, is, room))));
-      names = ap (spanned text) more ∙ map-append (λ (s : Span). take s.len (drop s.place text)) ss (c.args.span ∷ []) ∙ sym (new_name (spanned text ss) v (omega (arith, is, names_size text c.args.self.now)));
-    }
+    let v = c.args.self.now in
+    let none = found_none text c.slice.result.now (items v.spans) (search rules) in
+    let is = ap (λ w. index_of w (names_in text v)) (sym c.slice.ensures) ∙ none in
+    let r = numbered text v c.add.new.self c.args.span c.add.result is c.add.ensures in
+    record { number = r.0; names = r.1 }

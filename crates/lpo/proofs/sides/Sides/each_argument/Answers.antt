@@ -1,4 +1,4 @@
-use Rattle.std.proofs.Common.{◌≡◌, ◌<◌, Bool, true, false, List, length, MatchBool, Decides, get_or, ℕ, refl, arith, rules}
+use Rattle.std.proofs.Common.{◌≡◌, ◌<◌, Bool, true, false, List, length, MatchBool, Decides, get_or, ℕ, refl, subst, arith, rules}
 use Rattle.std.specs.List.{HoldsAt, AllWithin}
 use Rattle.std.proofs.lemmas.Bool.{false≢true}
 use Rattle.std.proofs.lemmas.Iterator.{cases_from_all}
@@ -25,4 +25,5 @@ pub returns : goal.returns
 returns c =
     let b = c.args.self.now in
     let js = places c.arguments.result in
-    found b c.args.p c.args.q c.requires js c.arguments.ensures _ (cases_from_all c.all.new.self _ _ (λ j. seen_at b c.args.p j ≡ Above) (λ j. seen_at b c.args.p j ≡ Above → ⊥) c.all.ensures.ran (YieldsList-from_first (λ x. x) places js refl) (λ x f k. search rules) (λ x f k. search rules))
+    let of_lower = subst (λ k. ArgumentsAt (low b) k js) (omega arith) c.arguments.ensures in
+    found b c.args.p c.args.q c.requires js of_lower _ (cases_from_all c.all.new.self _ _ (λ j. seen_at b c.args.p j ≡ Above) (λ j. seen_at b c.args.p j ≡ Above → ⊥) c.all.ensures.ran (YieldsList-from_first (λ x. x) places js refl) (λ x f k. search rules) (λ x f k. search rules))
