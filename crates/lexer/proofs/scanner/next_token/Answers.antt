@@ -1,4 +1,4 @@
-use Rattle.std.proofs.Common.{rules, ◌+◌, ◌≤◌, Some, None, length, refl, ap, ◌∙◌, arith}
+use Rattle.std.proofs.Common.{rules, ◌+◌, ◌≤◌, Some, None, length, drop, refl, ap, ◌∙◌, arith}
 use Rattle.std.proofs.lemmas.List.{drop_all, drop-drop}
 use Rattle.lexer.specs.Tokens.{tokens_from}
 use Rattle.lexer.specs.declared.token.Front.TheVariants.{Gap, Piece}
@@ -20,7 +20,7 @@ loop-n-preserved c =
     let text = c.args.text.now in
     let gap = stands text c.in_ok-get.field-0.now c.loop-n.place (Some (Gap c.in-Gap.n)) (search rules) (search rules) in
     record {
-      same = c.loop-n.invariant.same ∙ tokens_gap _ c.loop-n.place c.in-Gap.n gap ∙ ap (λ bs. tokens_from bs (c.loop-n.place + c.in-Gap.n)) (drop-drop c.in-Gap.n c.loop-n.place text);
+      same = c.loop-n.invariant.same ∙ tokens_gap _ c.loop-n.place c.in-Gap.n gap ∙ ap (λ bs. tokens_from bs (c.loop-n.place + c.in-Gap.n)) (drop-drop c.in-Gap.n c.loop-n.place text) ∙ ap (λ k. tokens_from (drop k text) k) (omega arith);
       behind = omega (arith, c.loop-n.invariant.behind);
     }
 
