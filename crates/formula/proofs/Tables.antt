@@ -1,5 +1,5 @@
 -- The table of variables: a name's number, and one name more.
-use Rattle.std.proofs.Common.{◌≡◌, ℕ, zero, suc, ◌+◌, ◌-◌, ◌<◌, ◌≤◌, Bool, true, false, not, ◌⊎◌, List, [], ◌∷◌, ◌++◌, length, take, drop, set, position, is_some, if◌then◌else◌, Some, None, Option, MatchOption, nat_lt, sym, refl, ap, ◌∙◌, inl, inr, arith}
+use Rattle.std.proofs.Common.{◌≡◌, ℕ, zero, suc, ◌+◌, ◌-◌, ◌<◌, ◌≤◌, Bool, true, false, not, ◌⊎◌, List, [], ◌∷◌, ◌++◌, length, take, drop, set, position, is_some, if◌then◌else◌, Some, None, Option, nat_lt, sym, refl, ap, ◌∙◌, inl, inr, arith}
 use lib.ListN.{length-map}
 use Rattle.std.specs.Str.{bytes_eq}
 use Rattle.std.specs.List.{position_or_len}
@@ -11,7 +11,7 @@ use Rattle.row.specs.Items.{items}
 use Rattle.grammar.specs.Kinds.{same_bytes}
 use Rattle.formula.specs.Symbols.{index_of}
 use Rattle.formula.specs.Numbering.{with_name}
-use Rattle.formula.specs.Rows.{spanned, names_in}
+use Rattle.formula.specs.Rows.{spanned, names_in, Added}
 use Rattle.formula.specs.declared.variables.Span.{Span}
 use Rattle.formula.specs.declared.variables.Variables.{Variables}
 
@@ -79,7 +79,7 @@ new_name vs v h = cond-false _ _ _ (le-ltb (index_of v vs) (length vs) h)
 
 -- a word that has no number yet gets the next one, if one is left
 pub numbered : (text : List ℕ) (v w : Variables) (s : Span) (o : Option ℕ) → index_of (take s.len (drop s.place text)) (names_in text v) ≡ length (items v.spans)
-    → MatchOption o ((16 ≤ length (items v.spans)) × (w ≡ v)) (λ k. (k ≡ length (items v.spans)) × (length (items v.spans) < 16) × (items w.spans ≡ items v.spans ++ s ∷ []))
+    → Added v s w o
     → (o ≡ (if nat_lt (index_of (take s.len (drop s.place text)) (names_in text v)) 16 then Some (index_of (take s.len (drop s.place text)) (names_in text v)) else None))
     × (names_in text w ≡ (if is_some o then with_name (names_in text v) (take s.len (drop s.place text)) else names_in text v))
 numbered text v w s None is h =
@@ -87,6 +87,6 @@ numbered text v w s None is h =
     (sym (cond-false _ _ _ (le-ltb n 16 (omega (arith, is, h.0)))), ap (names_in text) h.1)
 numbered text v w s (Some k) is h =
     let n = index_of (take s.len (drop s.place text)) (names_in text v) in (
-      ap Some (h.0 ∙ sym is) ∙ sym (cond-true _ _ _ (lt-ltb n 16 (omega (arith, is, h.1)))),
+      ap Some (h.1 ∙ sym is) ∙ sym (cond-true _ _ _ (lt-ltb n 16 (omega (arith, is, h.0)))),
       ap (spanned text) h.2 ∙ map-append (λ (t : Span). take t.len (drop t.place text)) (items v.spans) (s ∷ []) ∙ sym (new_name (names_in text v) (take s.len (drop s.place text)) (omega (arith, is, names_size text v))),
     )

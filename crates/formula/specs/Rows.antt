@@ -1,5 +1,5 @@
 -- Laying out a side over tokens: up to the sign or the end, cells become nodes, and all else is passed over.
-use Rattle.std.specs.Prelude.{ℕ, cond, List, [], ◌∷◌, ◌++◌, map, length, take, drop, Some, None, Ok, Err, Result, nat_lt}
+use Rattle.std.specs.Prelude.{◌≡◌, ℕ, ◌<◌, ◌≤◌, cond, List, [], ◌∷◌, ◌++◌, map, length, take, drop, Some, None, Ok, Err, Option, Result, nat_lt}
 use Rattle.terms.specs.declared.pattern.Node.{Node}
 use Rattle.terms.specs.declared.pattern.Node.TheVariants.{Var}
 use Rattle.signature.specs.declared.signature.Signature.{Signature}
@@ -36,3 +36,8 @@ spanned text ss = map (λ (s : Span). take s.len (drop s.place text)) ss
 
 abbrev pub names_in : List ℕ → Variables → List (List ℕ)
 names_in text v = spanned text (items v.spans)
+
+-- a variable took the next number, if one was left
+abbrev pub Added : Variables → Span → Variables → Option ℕ → Type 0
+Added v s w None = (16 ≤ length (items v.spans)) × (w ≡ v)
+Added v s w (Some k) = (length (items v.spans) < 16) × (k ≡ length (items v.spans)) × (items w.spans ≡ items v.spans ++ s ∷ [])

@@ -1,9 +1,9 @@
-ghost use Rattle.std.specs.Prelude.{◌≡◌, ◌<◌, ◌≤◌, [], ◌∷◌, ◌++◌, position, length, take, drop, is_some, if◌then◌else◌, Some, None, nat_lt, MatchOption};
+ghost use Rattle.std.specs.Prelude.{◌≡◌, [], position, length, take, drop, is_some, if◌then◌else◌, Some, None, nat_lt};
 ghost use Rattle.std.specs.Str.{bytes_eq};
 ghost use Rattle.row.specs.Items.{items};
 ghost use Rattle.formula.specs.Symbols.{index_of};
 ghost use Rattle.formula.specs.Numbering.{with_name};
-ghost use Rattle.formula.specs.Rows.{names_in};
+ghost use Rattle.formula.specs.Rows.{names_in, Added};
 
 use super::{Span, Variables};
 use row::Row;
@@ -47,7 +47,7 @@ impl Variables {
 
     // The variable takes the next number, if there is one left.
     fn add(&mut self, span: Span) -> Option<u8>
-        ensures { MatchOption result ((16 ≤ length (items self.old.spans)) × (self.new ≡ self.old)) (λ k. (k ≡ length (items self.old.spans)) × (length (items self.old.spans) < 16) × (items self.new.spans ≡ items self.old.spans ++ span ∷ [])) }
+        ensures { Added self.old span self.new result }
     {
         let k = self.count();
         self.spans.push(span).ok()?;
